@@ -1,0 +1,190 @@
+-- Document 01, "Who caused the refusal" and the three calls whole: from every number and lent buffer before to the answer and every lent buffer after. Assumes nothing: these are definitions.
+use mathlib.Core.Bool.{Bool, true, false, not, _&&_, _||_}
+use mathlib.Core.Option.{Option, none, some}
+use mathlib.Core.List.{List, [], _∷_, _++_, map}
+use Prim.Native.Nat.{ℕ, zero, suc, _+_, _-_, _*_, _/_, _%_}
+use lib.Dec.{ltb, leb, eqb}
+use lib.ListN.{length, getD, replicate, take}
+use Rattle.model.specs.Lists.{filled}
+use Rattle.model.specs.Sheet.{Plant, Read, got, Edition, edition1, readSheet, decisionSizes}
+use Rattle.model.specs.Assignment.{Assignment, maskOf, valuesOf, assignmentOf, maskFits, valuesFit, code}
+use Rattle.model.specs.Consistency.{Tested, test}
+use Rattle.model.specs.Conflict.{ReducedAlone, reduceAlone}
+use Rattle.model.specs.Order.{Order, orderOf}
+use Rattle.model.specs.Listing.{State, Ending, enough, all, full, Next, ended, more, Offer, listing}
+
+-- ---- refusals
+
+-- who caused a refusal, and its number
+pub data Refusal : Type 0 where
+  byHost : ℕ → Refusal
+  byAuthor : ℕ → Refusal
+
+abbrev pub refusalNumber : Refusal → ℕ
+refusalNumber (byHost n) = n
+refusalNumber (byAuthor n) = n
+
+-- a ground for refusal: whether it is given, and its number
+pub record Ground : Type 0 where
+  pub given : Bool
+  pub number : ℕ
+
+-- the number of the first ground that is given
+unfoldable pub firstGiven : List Ground → Option ℕ
+firstGiven [] = none
+firstGiven (g ∷ gs) = elim (g .given) [ true ↦ some (g .number) | false ↦ firstGiven gs ]
+
+abbrev pub ground : Bool → ℕ → Ground
+ground given number = record { given = given; number = number }
+
+-- ---- the test and the reduction on words
+
+-- 14: a mask bit beyond D. 15: a value outside its domain or a nonzero unused nibble.
+unfoldable pub wordGrounds : List ℕ → ℕ → ℕ → List Ground
+wordGrounds domains mask values = ground (not (maskFits domains mask)) 14 ∷ ground (not (valuesFit domains mask values)) 15 ∷ []
+
+-- a call on a sheet and two words: the sheet's refusal, then the words', then what the assignment answers
+pub data Answered (A : Type 0) : Type 0 where
+  refused : Refusal → Answered A
+  answered : A → Answered A
+
+unfoldable pub onWords : {A : Type 0} → Edition → List ℕ → ℕ → ℕ → (Plant → Assignment → A) → Answered A
+onWords e sheet mask values ask =
+    elim (readSheet e sheet) [
+      | Read.refused n ↦ refused (byAuthor n)
+      | got p end ↦ elim (firstGiven (wordGrounds (decisionSizes p) mask values)) [
+        | some n ↦ refused (byHost n)
+        | none ↦ answered (ask p (assignmentOf (length (p .costs)) mask values))
+      ]
+    ]
+
+-- the test call
+unfoldable pub testCall : List ℕ → ℕ → ℕ → ℕ → Answered Tested
+testCall sheet mask values limit = onWords edition1 sheet mask values (λ p a. test p limit a 0)
+
+-- the reduce call; a conflict is answered by its two words
+unfoldable pub reduceCall : List ℕ → ℕ → ℕ → ℕ → Answered ReducedAlone
+reduceCall sheet mask values limit = onWords edition1 sheet mask values (λ p a. reduceAlone p limit a)
+
+-- ---- the listing
+
+-- the lent buffers of a listing, as words
+pub record Buffers : Type 0 where
+  pub codes : List ℕ
+  pub costs : List ℕ
+  pub queue : List ℕ
+  pub store : List ℕ
+
+-- the counts of a run
+pub record Counts : Type 0 where
+  pub listed : ℕ
+  pub tested : ℕ
+  pub learned : ℕ
+  pub unkept : ℕ
+  pub trials : ℕ
+
+-- a run with its ending; that none is left unfinished is a theorem
+pub data Run : Type 0 where
+  ran : Ending → Counts → Run
+  unfinished : Run
+
+-- an answer is either a refusal, which says whose, or a run with its ending
+abbrev pub Answer : Type 0
+Answer = Answered Run
+
+-- a call's answer and the lent buffers after it
+pub record Called : Type 0 where
+  pub answer : Answer
+  pub after : Buffers
+
+abbrev pub odd : ℕ → Bool
+odd n = eqb (n % 2) 1
+
+-- the host's refusals before the sheet, in this order; `resultShort`: in the export, fewer than six result words
+unfoldable pub hostGrounds : ℕ → Buffers → ℕ → Bool → List Ground
+hostGrounds k b held resultShort =
+    ground (not (leb 1 k && leb k 4096)) 1
+    ∷ ground (ltb (length (b .codes)) k || ltb (length (b .costs)) k || resultShort) 2
+    ∷ ground (odd (length (b .queue)) || ltb (length (b .queue)) 2 || ltb 8192 (length (b .queue))) 3
+    ∷ ground (odd (length (b .store)) || ltb 8192 (length (b .store)) || ltb (length (b .store) / 2) held) 4
+    ∷ []
+
+-- the first n entries of a store's words
+unfoldable pub offersOf : ℕ → List ℕ → List Offer
+offersOf zero words = []
+offersOf (suc n) [] = []
+offersOf (suc n) (m ∷ []) = []
+offersOf (suc n) (m ∷ v ∷ words) = record { mask = m; values = v } ∷ offersOf n words
+
+-- the two words of each conflict in turn
+unfoldable pub entryWords : List Assignment → List ℕ
+entryWords [] = []
+entryWords (c ∷ cs) = maskOf c ∷ valuesOf c ∷ entryWords cs
+
+-- after every ending the queue is zero; the store holds survivors checked so far, then learned, then zeros; codes and costs beyond listed are unchanged
+unfoldable pub buffersAfter : Order → Buffers → State → Buffers
+buffersAfter o b s = record {
+  codes = filled (map code (s .listed)) (b .codes);
+  costs = filled (map (o .figure) (s .listed)) (b .costs);
+  queue = replicate (length (b .queue)) 0;
+  store = filled (entryWords (s .store)) (replicate (length (b .store)) 0);
+}
+
+abbrev pub countsOf : State → Counts
+countsOf s = record { listed = length (s .listed); tested = s .tested; learned = s .learned; unkept = s .unkept; trials = s .trials }
+
+unfoldable pub calledOf : Order → Buffers → Next → Called
+calledOf o b (ended e s) = record { answer = answered (ran e (countsOf s)); after = buffersAfter o b s }
+calledOf o b (more s) = record { answer = answered unfinished; after = b }
+
+-- the run of an accepted call
+unfoldable pub runOf : Plant → ℕ → Buffers → ℕ → ℕ → Next
+runOf p k b held limit = listing p (orderOf p) k (length (b .queue) / 2) (length (b .store) / 2) (offersOf held (b .store)) limit
+
+-- a refusal changes no lent buffer
+abbrev pub refusing : Buffers → Refusal → Called
+refusing b r = record { answer = refused r; after = b }
+
+-- the listing call, with `resultShort` as in the host's refusals
+unfoldable pub listingWith : List ℕ → ℕ → Buffers → ℕ → ℕ → Bool → Called
+listingWith sheet k b held limit resultShort =
+    elim (firstGiven (hostGrounds k b held resultShort)) [
+      | some n ↦ refusing b (byHost n)
+      | none ↦ elim (readSheet edition1 sheet) [
+        | Read.refused n ↦ refusing b (byAuthor n)
+        | got p end ↦ calledOf (orderOf p) b (runOf p k b held limit)
+      ]
+    ]
+
+-- the listing call
+unfoldable pub listingCall : List ℕ → ℕ → Buffers → ℕ → ℕ → Called
+listingCall sheet k b held limit = listingWith sheet k b held limit false
+
+-- ---- the export to C
+
+-- the number of an ending in the first result word
+abbrev pub endingNumber : Ending → ℕ
+endingNumber enough = 1
+endingNumber all = 2
+endingNumber full = 3
+endingNumber Ending.spent = 4
+
+-- the six result words of a run
+abbrev pub resultWords : Ending → Counts → List ℕ
+resultWords e c = endingNumber e ∷ c .listed ∷ c .tested ∷ c .learned ∷ c .unkept ∷ c .trials ∷ []
+
+-- what the export returns, and the result words after it: words beyond the six are unchanged
+pub record Exported : Type 0 where
+  pub returned : ℕ
+  pub after : Buffers
+  pub result : List ℕ
+
+unfoldable pub exportedOf : List ℕ → Buffers → Answer → Exported
+exportedOf result b (refused r) = record { returned = refusalNumber r; after = b; result = result }
+exportedOf result b (answered (ran e c)) = record { returned = 0; after = b; result = filled (resultWords e c) result }
+exportedOf result b (answered unfinished) = record { returned = 0; after = b; result = result }
+
+unfoldable pub exportCall : List ℕ → ℕ → Buffers → ℕ → ℕ → List ℕ → Exported
+exportCall sheet k b held limit result =
+    let called : Called = listingWith sheet k b held limit (ltb (length result) 6) in
+    exportedOf result (called .after) (called .answer)

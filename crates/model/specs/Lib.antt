@@ -1,0 +1,10 @@
+pub mod Lists
+pub mod Digits
+pub mod Sheet
+pub mod Assignment
+pub mod Consistency
+pub mod Conflict
+pub mod Order
+pub mod Listing
+pub mod Calls
+pub mod Examples

@@ -1,0 +1,4 @@
+pub mod Digits
+pub mod BestFirst
+pub mod Plant
+pub mod Order

@@ -1,0 +1,260 @@
+"""The listing call, its export, and what the program `leading` prints."""
+
+import sys
+from dataclasses import dataclass
+
+from plant import Refusal, read
+from search import Meter, Spent, reduce_within, test, to_words, well_formed
+
+K_MOST = 4096
+QUEUE_WORDS_MOST = 8192
+STORE_WORDS_MOST = 8192
+RESULT_WORDS = 6
+TESTED_MOST = 4_294_967_295
+ENDINGS = {"enough": 1, "all": 2, "full": 3, "spent": 4}
+
+
+@dataclass
+class Settings:
+    """All of a listing's input but the sheet; the buffers as lent."""
+
+    k: int
+    codes: list
+    costs: list
+    queue: list
+    store: list
+    held: int
+    limit: int
+
+
+@dataclass
+class Result:
+    ending: str
+    listed: int
+    tested: int
+    learned: int
+    unkept: int
+    trials: int
+    struck_in_reduction: bool
+    codes: list
+    costs: list
+    queue: list
+    store: list
+
+    def words(self):
+        counts = [self.listed, self.tested, self.learned, self.unkept, self.trials]
+        return [ENDINGS[self.ending]] + counts
+
+
+def check_host(settings, result_words=RESULT_WORDS):
+    """Refusals 1 to 4, before the sheet."""
+    s = settings
+    if not 1 <= s.k <= K_MOST:
+        raise Refusal(1)
+    if len(s.codes) < s.k or len(s.costs) < s.k or result_words < RESULT_WORDS:
+        raise Refusal(2)
+    if len(s.queue) % 2 or not 2 <= len(s.queue) <= QUEUE_WORDS_MOST:
+        raise Refusal(3)
+    words = len(s.store)
+    if words % 2 or words > STORE_WORDS_MOST or s.held > words // 2:
+        raise Refusal(4)
+
+
+def state_cost(plant, state):
+    return sum(costs[value] for costs, value in zip(plant.costs, state))
+
+
+def order(plant, state):
+    """Cost, then code as a number."""
+    return state_cost(plant, state), to_words(state)[1]
+
+
+def best_state(plant, node):
+    # index finds the lowest value on a tie.
+    return tuple(
+        costs.index(min(costs)) if value is None else value
+        for value, costs in zip(node, plant.costs)
+    )
+
+
+def manifests(node, conflict):
+    return all(c is None or n == c for n, c in zip(node, conflict))
+
+
+def resolves(node, conflict):
+    return any(
+        n is not None and c is not None and n != c for n, c in zip(node, conflict)
+    )
+
+
+def give(node, variable, value):
+    return node[:variable] + (value,) + node[variable + 1 :]
+
+
+def conflict_children(plant, node, conflict):
+    children = []
+    for member, value in enumerate(conflict):
+        if value is not None and node[member] is None:
+            others = (v for v in range(plant.sizes[member]) if v != value)
+            children.extend(give(node, member, other) for other in others)
+            node = give(node, member, value)
+    return children
+
+
+def value_children(plant, node):
+    variable = node.index(None)
+    return [give(node, variable, v) for v in range(plant.sizes[variable])]
+
+
+class Run:
+    """One listing under way, after the refusals."""
+
+    def __init__(self, plant, settings):
+        self.plant = plant
+        self.k = settings.k
+        self.queue_entries = len(settings.queue) // 2
+        self.store_entries = len(settings.store) // 2
+        self.meter = Meter(settings.limit)
+        self.queue = []
+        self.store = []
+        self.listed = []
+        self.tested = self.learned = self.unkept = 0
+        self.reducing = False
+
+    def check_offered(self, offered):
+        """Step 1."""
+        for mask, values in offered:
+            try:
+                entry = well_formed(self.plant, mask, values)
+            except Refusal:
+                continue
+            if test(self.plant, entry, self.meter) is None:
+                self.store.append(entry)
+
+    def remove_first(self):
+        first = min(self.queue, key=lambda n: order(self.plant, best_state(self.plant, n)))
+        self.queue.remove(first)
+        return first
+
+    def put_in(self, children):
+        """Step 6; False where the children do not fit."""
+        kept = [c for c in children if not self.manifests_stored(c)]
+        if len(kept) > self.queue_entries - len(self.queue):
+            return False
+        self.queue.extend(kept)
+        return True
+
+    def manifests_stored(self, node):
+        return any(manifests(node, conflict) for conflict in self.store)
+
+    def test_full(self, state):
+        """Step 7, the limit apart."""
+        found = test(self.plant, state, self.meter)
+        self.tested += 1
+        if found is not None:
+            self.listed.append(state)
+        elif len(self.store) == self.store_entries:
+            self.unkept += 1
+        else:
+            self.learn(state)
+
+    def learn(self, state):
+        self.reducing = True
+        conflict = reduce_within(self.plant, state, self.meter)
+        self.reducing = False
+        self.store.append(conflict)
+        self.learned += 1
+        self.queue = [n for n in self.queue if not manifests(n, conflict)]
+
+    def take_node(self, node):
+        """Steps 4 to 7 on the removed node: an ending, or None to go on."""
+        unresolved = [c for c in self.store if not resolves(node, c)]
+        if unresolved:
+            children = conflict_children(self.plant, node, unresolved[0])
+        elif None in node:
+            children = value_children(self.plant, node)
+        elif self.tested == TESTED_MOST:
+            return "spent"
+        else:
+            self.test_full(node)
+            return None
+        return None if self.put_in(children) else "full"
+
+    def steps(self, offered):
+        self.check_offered(offered)
+        self.queue = [(None,) * self.plant.decisions]
+        while True:
+            if len(self.listed) == self.k:
+                return "enough"
+            if not self.queue:
+                return "all"
+            ending = self.take_node(self.remove_first())
+            if ending:
+                return ending
+
+
+def close(run, ending, settings):
+    """The result with every lent word afterwards."""
+    count = len(run.listed)
+    codes = [to_words(state)[1] for state in run.listed]
+    costs = [state_cost(run.plant, state) for state in run.listed]
+    store = [word for entry in run.store for word in to_words(entry)]
+    return Result(
+        ending,
+        count,
+        run.tested,
+        run.learned,
+        run.unkept,
+        run.meter.trials,
+        run.reducing,
+        codes + settings.codes[count:],
+        costs + settings.costs[count:],
+        [0] * len(settings.queue),
+        store + [0] * (len(settings.store) - len(store)),
+    )
+
+
+def listing(sheet, settings):
+    """The listing call; raises a refusal. The lent buffers stay as they were,
+    and the result carries what they hold afterwards."""
+    check_host(settings)
+    run = Run(read(sheet), settings)
+    words = settings.store[: 2 * settings.held]
+    try:
+        ending = run.steps(list(zip(words[0::2], words[1::2])))
+    except Spent:
+        ending = "spent"
+    return close(run, ending, settings)
+
+
+def export(sheet, settings, result_words):
+    """The export: the refusal's number, or 0 with the lent lists rewritten."""
+    try:
+        check_host(settings, len(result_words))
+        result = listing(sheet, settings)
+    except Refusal as refusal:
+        return refusal.number
+    for name in ("codes", "costs", "queue", "store"):
+        getattr(settings, name)[:] = getattr(result, name)
+    result_words[:RESULT_WORDS] = result.words()
+    return 0
+
+
+def leading(data):
+    """What the program `leading` prints for its standard input."""
+    settings = Settings(16, [0] * 16, [0] * 16, [0] * 8192, [0] * 128, 0, 1_000_000)
+    try:
+        result = listing(data[:11357], settings)
+    except Refusal as refusal:
+        return f"refused {refusal.number}\n"
+    text = ""
+    for place in range(result.listed):
+        text += f"{place + 1} {result.costs[place]} {result.codes[place]:016x}\n"
+    return text + (
+        f"{result.ending} {result.listed} tested {result.tested} learned "
+        f"{result.learned} unkept {result.unkept} trials {result.trials}\n"
+    )
+
+
+if __name__ == "__main__":
+    sys.stdout.write(leading(sys.stdin.buffer.read()))
