@@ -115,7 +115,7 @@ class Run:
         self.queue_entries = len(settings.queue) // 2
         self.store_entries = len(settings.store) // 2
         self.meter = Meter(settings.limit)
-        self.queue = []
+        self.queue = []  # pairs of the best state's order and the node
         self.store = []
         self.listed = []
         self.tested = self.learned = self.unkept = 0
@@ -132,16 +132,20 @@ class Run:
                 self.store.append(entry)
 
     def remove_first(self):
-        first = min(self.queue, key=lambda n: order(self.plant, best_state(self.plant, n)))
+        # Nodes share no state, so no two have one best state.
+        first = min(self.queue, key=lambda entry: entry[0])
         self.queue.remove(first)
-        return first
+        return first[1]
+
+    def queue_entry(self, node):
+        return order(self.plant, best_state(self.plant, node)), node
 
     def put_in(self, children):
         """Step 6; False where the children do not fit."""
         kept = [c for c in children if not self.manifests_stored(c)]
         if len(kept) > self.queue_entries - len(self.queue):
             return False
-        self.queue.extend(kept)
+        self.queue.extend(map(self.queue_entry, kept))
         return True
 
     def manifests_stored(self, node):
@@ -164,7 +168,7 @@ class Run:
         self.reducing = False
         self.store.append(conflict)
         self.learned += 1
-        self.queue = [n for n in self.queue if not manifests(n, conflict)]
+        self.queue = [e for e in self.queue if not manifests(e[1], conflict)]
 
     def take_node(self, node):
         """Steps 4 to 7 on the removed node: an ending, or None to go on."""
@@ -182,7 +186,7 @@ class Run:
 
     def steps(self, offered):
         self.check_offered(offered)
-        self.queue = [(None,) * self.plant.decisions]
+        self.queue = [self.queue_entry((None,) * self.plant.decisions)]
         while True:
             if len(self.listed) == self.k:
                 return "enough"

@@ -40,7 +40,13 @@ lent s = record {
   store = s .offered ++ replicate (s .store - length (s .offered)) 7;
 }
 
+-- whoever unfolds this unfolds every definition of the listing
 unfoldable pub call : Settings → Called
+unfolding lent
+  number digits bitAt bitsAt then many field edition1 decisionsAllowed readDecision readState readLiteral readClause readFiller readEnd readBody readSheet
+  assignmentOf maskFits valuesFit wellFormed holdsAt literalFails clauseFalse anyFalse orElse tryValues explore test reduceFrom reduce costThenCode orderOf
+  checkOffers enqueue enqueueAll putChildren learn judge expand step run start enoughSteps listing
+  firstGiven hostGrounds offersOf entryWords buffersAfter calledOf runOf listingWith listingCall
 call s = listingCall (s .sheet) (s .k) (lent s) (s .held) (s .limit)
 
 unfoldable pub showAnswer : Buffers → Answered Run → Shown
@@ -50,6 +56,7 @@ showAnswer b (answered (ran e c)) =
 showAnswer b (answered unfinished) = unended
 
 unfoldable pub shows : Settings → Shown
+unfolding call showAnswer
 shows s = let c : Called = call s in showAnswer (c .after) (c .answer)
 
 -- a queue and a store of so many entries, with all offered words held, and codes and costs of k words
@@ -132,9 +139,5 @@ wanted =
     ∷ []
 
 pub P1-to-P11 : table ≡ wanted
-unfolding table wanted three shows showAnswer call lent plain tail small emptyClause noDecisions seventeen damaged
-  number digits bitAt bitsAt then many field edition1 decisionsAllowed readDecision readState readLiteral readClause readFiller readEnd readBody readSheet
-  assignmentOf maskFits valuesFit wellFormed holdsAt literalFails clauseFalse anyFalse orElse tryValues explore test reduceFrom reduce costThenCode orderOf
-  checkOffers enqueue enqueueAll putChildren learn judge expand step run start enoughSteps listing
-  firstGiven hostGrounds offersOf entryWords buffersAfter calledOf runOf listingWith listingCall
+unfolding table wanted three shows plain tail small emptyClause noDecisions seventeen damaged
 P1-to-P11 = refl

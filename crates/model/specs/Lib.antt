@@ -8,3 +8,4 @@ pub mod Order
 pub mod Listing
 pub mod Calls
 pub mod Examples
+pub mod Edges

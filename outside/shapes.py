@@ -1,0 +1,73 @@
+"""Random plants, assignments and entries for the tests and the vectors."""
+
+from plant import Literal, Plant
+from search import to_words
+
+COST_KINDS = {
+    "zero": lambda rng: 0,
+    "ties": lambda rng: rng.randrange(2),
+    "small": lambda rng: rng.randrange(6),
+    "wide": lambda rng: rng.randrange(65536),
+    "top": lambda rng: rng.randrange(65530, 65536),
+}
+
+
+def random_literal(rng, sizes):
+    variable = rng.randrange(len(sizes))
+    return Literal(variable, rng.randrange(2), rng.randrange(sizes[variable]))
+
+
+def random_clause(rng, sizes, literals):
+    clause = [random_literal(rng, sizes) for _ in range(literals)]
+    if clause and rng.random() < 0.1:
+        clause[-1] = clause[0]  # repeated literals are allowed
+    return tuple(clause)
+
+
+def shaped(rng, sizes, decisions, clause_lengths, cost_kind):
+    cost = COST_KINDS[cost_kind]
+    costs = tuple(tuple(cost(rng) for _ in range(s)) for s in sizes[:decisions])
+    clauses = tuple(random_clause(rng, sizes, n) for n in clause_lengths)
+    return Plant(costs, tuple(sizes[decisions:]), clauses)
+
+
+def random_sizes(rng, count, size_most):
+    return [rng.randint(1, size_most) for _ in range(count)]
+
+
+def small_random_plant(rng, space_most=1500):
+    """A plant whose values of all variables can be run over quickly."""
+    decisions = rng.randint(1, 5)
+    sizes = random_sizes(rng, decisions + rng.randint(0, 3), rng.choice([2, 3, 4]))
+    space = 1
+    for place, size in enumerate(sizes):
+        if space * size > space_most:
+            sizes[place] = 1
+        space *= sizes[place]
+    lengths = [rng.choice([1, 2, 2, 2, 3, 3, 4]) for _ in range(rng.randint(0, 9))]
+    if rng.random() < 0.04:
+        lengths.append(0)
+    return shaped(rng, sizes, decisions, lengths, rng.choice(list(COST_KINDS)))
+
+
+def random_assignment(rng, plant, chance=0.5):
+    return tuple(
+        rng.randrange(len(costs)) if rng.random() < chance else None
+        for costs in plant.costs
+    )
+
+
+def random_words(rng, plant, chance=0.5):
+    return to_words(random_assignment(rng, plant, chance))
+
+
+def spoil(rng, plant, words):
+    """Words of an assignment made ill formed, or left where they cannot be."""
+    mask, values = words
+    kind = rng.randrange(3)
+    if kind == 0:
+        return mask | 1 << rng.randrange(64 - plant.decisions), values
+    if kind == 1:
+        return mask, values | 1 << rng.randrange(64)
+    bit = 1 << rng.randrange(64 - plant.decisions)
+    return mask | bit, values | 1 << rng.randrange(64)

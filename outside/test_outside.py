@@ -1,0 +1,354 @@
+"""Checks of the outside program: `python3 outside/test_outside.py`."""
+
+import sys
+import unittest
+from itertools import product
+from math import prod
+from random import Random
+
+sys.dont_write_bytecode = True
+
+import listing as listing_module
+import vectors
+from listing import Settings, export, leading, listing
+from plant import Refusal, encode, fields, pack, read
+from search import Meter, is_false, reduce_call, reduce_within, test, test_call
+from shapes import random_assignment, random_words, small_random_plant, spoil
+from whole import (
+    begins,
+    brute_consistent,
+    check_demand3,
+    check_rest,
+    consistent_states,
+    minimal,
+    run_list,
+)
+
+SMALL = bytes.fromhex("0110201080000001880000001898100601044200")
+P1_LINES = "1 3 0100000000000000\n2 3 1000000000000000\n3 6 1100000000000000\n"
+P1_LIST = [(3, 0x01 << 56), (3, 0x10 << 56), (6, 0x11 << 56)]
+
+
+def set_up(k=16, queue=4096, store=64, offers=(), limit=1_000_000):
+    """The program's settings, queue and store in entries."""
+    words = [word for offer in offers for word in offer]
+    words += [0] * (2 * store - len(words))
+    return Settings(k, [0] * k, [0] * k, [0] * 2 * queue, words, len(offers), limit)
+
+
+def refusal_of(call, *arguments):
+    try:
+        call(*arguments)
+    except Refusal as refusal:
+        return refusal.number
+    return None
+
+
+class Table(unittest.TestCase):
+    """P1 to P11 of document 01."""
+
+    def check(self, words, own_list, sheet=SMALL, **settings):
+        result = listing(sheet, set_up(**settings))
+        self.assertEqual(words, f"{result.ending} " + " ".join(map(str, result.words()[1:])))
+        self.assertEqual(own_list, run_list(result))
+        return result
+
+    def test_sheet(self):
+        self.assertEqual(read(SMALL), vectors.SMALL_PLANT)
+        self.assertEqual(encode(vectors.SMALL_PLANT), SMALL)
+
+    def test_p1_to_p3(self):
+        last = "all 3 tested 4 learned 1 unkept 0 trials 15\n"
+        self.assertEqual(P1_LINES + last, leading(SMALL))
+        self.check("all 3 4 1 0 15", P1_LIST)
+        self.check("enough 1 2 1 0 13", P1_LIST[:1], k=1)
+        self.check("enough 3 4 1 0 15", P1_LIST, k=3)
+
+    def test_p4(self):
+        self.check("full 0 0 0 0 0", [], queue=2)
+        self.check("all 3 4 1 0 15", P1_LIST, queue=3)
+
+    def test_p5(self):
+        self.check("spent 2 3 1 0 14", P1_LIST[:2], limit=14)
+        self.check("all 3 4 1 0 15", P1_LIST, limit=15)
+        result = self.check("spent 0 1 0 0 5", [], limit=5)
+        self.assertTrue(result.struck_in_reduction)
+
+    def test_p6_and_p7(self):
+        result = self.check("all 3 3 0 0 5", P1_LIST, offers=[(3 << 62, 0)])
+        self.assertEqual([3 << 62, 0, 0], result.store[:3])
+        result = self.check("all 3 4 1 0 17", P1_LIST, offers=[(1 << 63, 1 << 60)])
+        self.assertEqual([3 << 62, 0, 0], result.store[:3])
+
+    def test_p8_and_p9(self):
+        sheet = encode(vectors.SMALL_PLANT_EMPTY_CLAUSE)
+        self.check("all 0 1 1 0 0", [], sheet)
+        self.check("all 0 4 0 4 0", [], sheet, store=0)
+
+    def test_p10_and_p11(self):
+        for decisions in (0, 17):
+            sheet = vectors.with_field(vectors.SMALL_PLANT, "D", decisions)
+            self.assertEqual("refused 7\n", leading(sheet))
+        self.assertEqual("refused 12\n", leading(SMALL[:-1] + b"\1\0"))
+
+
+class Sheets(unittest.TestCase):
+    def test_round_trip(self):
+        rng = Random(1)
+        for _ in range(100):
+            plant = small_random_plant(rng)
+            self.assertEqual(plant, read(encode(plant)))
+        longest = vectors.longest_plant(rng)
+        self.assertEqual(11356, len(encode(longest)))
+        self.assertEqual(longest, read(encode(longest)))
+
+    def test_every_cut(self):
+        for length in range(len(SMALL)):
+            self.assertEqual(5, refusal_of(read, SMALL[:length]))
+
+    def test_past_the_end_first(self):
+        """A wrong field is refused as the last one, and cut short it is 5."""
+        listed = fields(vectors.SMALL_PLANT)
+        bad = {"edition": (2, 6), "D": (0, 7), "S": (33, 8), "C": (513, 9)}
+        bad.update(variable=(3, 10), value=(2, 11))
+        for place, (name, width, _) in enumerate(listed):
+            number, refusal = bad.get(name, (0, None))
+            if refusal:
+                sheet = pack(listed[:place] + [(name, width, number)])
+                self.assertEqual(refusal, refusal_of(read, sheet))
+                self.assertEqual(5, refusal_of(read, sheet[:-1]))
+
+    def test_end(self):
+        self.assertEqual(13, refusal_of(read, SMALL + b"\0"))
+        self.assertEqual(12, refusal_of(read, SMALL[:-1] + b"\1"))
+
+
+def prefix_trials(plant, assignment):
+    """Trials by definition: a value is tried where what stands before it is
+    reached with no clause false, up to the first complete success."""
+    free = [v for v in range(len(plant.sizes)) if v >= plant.decisions or assignment[v] is None]
+    base = list(assignment) + [None] * len(plant.state_sizes)
+
+    def broken(prefix):
+        setting = list(base)
+        for variable, value in zip(free, prefix):
+            setting[variable] = value
+        return any(is_false(clause, setting) for clause in plant.clauses)
+
+    ranges = [range(plant.sizes[v]) for v in free]
+    reached = {(): not broken(())}
+    for length in range(1, len(free) + 1):
+        for prefix in product(*ranges[:length]):
+            if reached.get(prefix[:-1]):
+                reached[prefix] = not broken(prefix)
+    tried = sorted(prefix for prefix in reached if prefix)
+    successes = [p for p in reached if reached[p] and len(p) == len(free)]
+    if not successes:
+        return False, len(tried)
+    return True, sum(1 for prefix in tried if prefix <= min(successes))
+
+
+class Search(unittest.TestCase):
+    def test_answers_and_trials(self):
+        rng = Random(2)
+        for _ in range(150):
+            plant = small_random_plant(rng, 200)
+            assignment = random_assignment(rng, plant)
+            meter = Meter(10**6)
+            found = test(plant, assignment, meter)
+            wanted = brute_consistent(consistent_states(plant), assignment)
+            self.assertEqual(wanted, found is not None)
+            self.assertEqual((wanted, meter.trials), prefix_trials(plant, assignment))
+
+    def test_limits(self):
+        rng = Random(3)
+        for _ in range(150):
+            plant = small_random_plant(rng, 200)
+            words = random_words(rng, plant)
+            for call in (test_call, reduce_call):
+                ample = call(encode(plant), *words, 10**6)
+                self.assertEqual(ample, call(encode(plant), *words, ample.trials))
+                limit = rng.randint(0, ample.trials)
+                answer = call(encode(plant), *words, limit)
+                if limit < ample.trials:
+                    self.assertEqual(("spent", limit, None), tuple(answer))
+
+    def test_reduction(self):
+        rng = Random(4)
+        for _ in range(200):
+            plant = small_random_plant(rng, 200)
+            states = consistent_states(plant)
+            assignment = random_assignment(rng, plant, 0.8)
+            if not brute_consistent(states, assignment):
+                conflict = reduce_within(plant, assignment, Meter(10**6))
+                self.assertTrue(minimal(states, conflict))
+
+    def test_refusals(self):
+        for call in (test_call, reduce_call):
+            self.assertEqual(14, refusal_of(call, SMALL, 1, 1, 9))
+            self.assertEqual(14, refusal_of(call, SMALL, 1 << 61, 0, 9))
+            self.assertEqual(15, refusal_of(call, SMALL, 1 << 63, 2 << 60, 9))
+            self.assertEqual(15, refusal_of(call, SMALL, 0, 1 << 60, 9))
+            self.assertEqual(15, refusal_of(call, SMALL, 0, 1, 9))
+            self.assertEqual(5, refusal_of(call, SMALL[:-1], 1, 1, 9))
+            self.assertIsNone(refusal_of(call, SMALL, 3 << 62, 0x11 << 56, 9))
+
+
+def random_settings(rng, plant):
+    """Random settings over random junk, with offers of every kind."""
+    k = rng.choice([1, 2, 3, 6, 40])
+    states = prod(plant.sizes[: plant.decisions])
+    queue = 2 * rng.choice([1, 2, 3, 5, 9, states, states, 300])
+    store = 2 * rng.choice([0, 1, 2, 3, 8, 20])
+    words = [rng.getrandbits(64) for _ in range(store)]
+    held = rng.randint(0, store // 2) if rng.random() < 0.6 else 0
+    for entry in range(held):
+        offer = random_words(rng, plant, rng.choice([0.3, 0.7, 1.0]))
+        offer = spoil(rng, plant, offer) if rng.random() < 0.2 else offer
+        words[2 * entry : 2 * entry + 2] = offer
+    return Settings(
+        k,
+        [rng.getrandbits(64) for _ in range(k + rng.randrange(3))],
+        [rng.getrandbits(32) for _ in range(k + rng.randrange(3))],
+        [rng.getrandbits(64) for _ in range(queue)],
+        words,
+        held,
+        rng.choice([0, rng.randrange(60), rng.randrange(600), 10**6, 10**6]),
+    )
+
+
+class Listings(unittest.TestCase):
+    def test_demand3_on_random_plants(self):
+        rng = Random(5)
+        seen = set()
+        for _ in range(400):
+            plant = small_random_plant(rng, 400)
+            lists = []
+            for _ in range(2):
+                settings = random_settings(rng, plant)
+                result = listing(encode(plant), settings)
+                self.assertEqual([], check_demand3(result, plant, settings))
+                self.assertEqual([], check_rest(result, plant, settings))
+                seen.add((result.ending, result.struck_in_reduction))
+                lists.append(run_list(result))
+            self.assertTrue(begins(*lists) or begins(*reversed(lists)))
+        endings = {("enough", False), ("all", False), ("full", False)}
+        self.assertEqual(endings | {("spent", False), ("spent", True)}, seen)
+
+    def test_exact_limit(self):
+        rng = Random(6)
+        for _ in range(100):
+            plant = small_random_plant(rng, 300)
+            settings = random_settings(rng, plant)
+            settings.limit = 10**6
+            ample = listing(encode(plant), settings)
+            settings.limit = ample.trials
+            self.assertEqual(ample, listing(encode(plant), settings))
+            if ample.trials:
+                settings.limit = ample.trials - 1
+                self.assertEqual("spent", listing(encode(plant), settings).ending)
+
+    def test_tested_most(self):
+        most = listing_module.TESTED_MOST
+        listing_module.TESTED_MOST = 2
+        try:
+            result = listing(SMALL, set_up())
+        finally:
+            listing_module.TESTED_MOST = most
+        self.assertEqual([4, 1, 2, 1, 0, 13], result.words())
+        self.assertFalse(result.struck_in_reduction)
+
+    def test_host_refusals(self):
+        changes = [(1, dict(k=0)), (1, dict(k=4097)), (2, dict(codes=[0] * 15))]
+        changes += [(2, dict(costs=[0] * 15)), (3, dict(queue=[])), (3, dict(queue=[0] * 3))]
+        changes += [(3, dict(queue=[0] * 8194)), (4, dict(store=[0])), (4, dict(held=65))]
+        changes += [(4, dict(store=[0] * 8194)), (1, dict(k=0, queue=[]))]
+        for number, change in changes:
+            settings = set_up()
+            vars(settings).update(change)
+            self.assertEqual(number, refusal_of(listing, b"", settings))
+
+    def test_export(self):
+        settings = set_up()
+        before = repr(settings)
+        self.assertEqual(2, export(SMALL, settings, [7] * 5))
+        self.assertEqual(5, export(SMALL[:9], settings, [7] * 6))
+        self.assertEqual(before, repr(settings))
+        words = [7] * 8
+        self.assertEqual(0, export(SMALL, settings, words))
+        self.assertEqual([2, 3, 4, 1, 0, 15, 7, 7], words)
+        self.assertEqual([code for _, code in P1_LIST], settings.codes[:3])
+
+
+class Impostors(unittest.TestCase):
+    """Demand 3's check complains of each of these."""
+
+    def complaint(self, **changes):
+        settings = set_up(k=5, queue=8, store=4)
+        result = listing(SMALL, settings)
+        self.assertEqual([], check_demand3(result, vectors.SMALL_PLANT, settings))
+        for name, change in changes.items():
+            change(getattr(result, name)) if callable(change) else setattr(result, name, change)
+        return check_demand3(result, vectors.SMALL_PLANT, settings)
+
+    def test_complaints(self):
+        for changes in [
+            dict(listed=2),
+            dict(listed=2, tested=3),
+            dict(ending="enough"),
+            dict(tested=5),
+            dict(tested=5, unkept=1, codes=lambda c: c.reverse()),
+            dict(struck_in_reduction=True, tested=5),
+            dict(unkept=1),
+            dict(learned=0, tested=3),
+            dict(costs=lambda c: c.__setitem__(0, 2)),
+            dict(costs=lambda c: c.__setitem__(3, 2)),
+            dict(codes=lambda c: c.__setitem__(0, 0x10 << 56)),
+            dict(codes=lambda c: c.__setitem__(4, 1)),
+            dict(queue=lambda q: q.__setitem__(15, 1)),
+            dict(store=lambda s: s.__setitem__(0, 1 << 63)),
+            dict(store=lambda s: s.__setitem__(7, 1)),
+            dict(store=lambda s: s.append(0)),
+        ]:
+            self.assertNotEqual([], self.complaint(**changes), changes)
+
+
+def small_space(run):
+    try:
+        plant = read(run.sheet)
+    except Refusal:
+        return None
+    return plant if prod(plant.sizes) <= 3000 else None
+
+
+class Vectors(unittest.TestCase):
+    def test_listings(self):
+        seen = set()
+        for run in vectors.listing_cases():
+            self.assertLessEqual(len(run.given), run.store)
+            settings = vectors.settings_of(run)
+            number = refusal_of(listing, run.sheet, settings)
+            seen.add(number)
+            plant = small_space(run)
+            if number is None and plant:
+                result = listing(run.sheet, settings)
+                self.assertEqual([], check_demand3(result, plant, settings))
+                self.assertEqual([], check_rest(result, plant, settings))
+                seen.add((result.ending, result.struck_in_reduction))
+        self.assertLessEqual({*range(1, 14), ("spent", False), ("spent", True)}, seen)
+        self.assertLessEqual({("enough", False), ("all", False), ("full", False)}, seen)
+
+    def test_sheets(self):
+        cases = vectors.sheet_cases()
+        numbers = {refusal_of(read, sheet) for sheet in cases}
+        self.assertEqual({None, *range(5, 14)}, numbers)
+        self.assertLessEqual({0, 11355, 11356, 11357}, set(map(len, cases)))
+
+    def test_calls(self):
+        lines = {vectors.call_line(call).split()[0] for call in vectors.test_cases()}
+        names = {"refused", "consistent", "inconsistent", "spent", "none", "conflict"}
+        self.assertEqual(names, lines)
+
+
+if __name__ == "__main__":
+    unittest.main()

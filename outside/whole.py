@@ -1,0 +1,164 @@
+"""The whole set by brute force, and demand 3 checked on a result.
+
+Nothing here goes through the consistency test: consistency is decided by
+running over all values of all variables.
+"""
+
+from itertools import product
+from math import prod
+
+from plant import Refusal
+from search import to_words, well_formed
+
+
+def holds(clause, setting):
+    for variable, sign, value in clause:
+        if (setting[variable] == value) == (sign == 0):
+            return True
+    return False
+
+
+def consistent_states(plant):
+    """All full consistent assignments, in no order that matters."""
+    states = []
+    for state in product(*(range(size) for size in plant.sizes[: plant.decisions])):
+        hidden = product(*(range(size) for size in plant.state_sizes))
+        if any(all(holds(c, state + h) for c in plant.clauses) for h in hidden):
+            states.append(state)
+    return states
+
+
+def cost_of_code(plant, code):
+    digits = f"{code:016x}"
+    return sum(costs[int(digit, 16)] for costs, digit in zip(plant.costs, digits))
+
+
+def whole_set(plant):
+    """Pairs of cost and code, in the order cost, then code."""
+    codes = [to_words(state)[1] for state in consistent_states(plant)]
+    return sorted((cost_of_code(plant, code), code) for code in codes)
+
+
+def begins(short, long):
+    return len(short) <= len(long) and all(a == b for a, b in zip(short, long))
+
+
+def run_list(result):
+    return list(zip(result.costs, result.codes))[: result.listed]
+
+
+def brute_consistent(states, assignment):
+    return any(
+        all(a is None or a == s for a, s in zip(assignment, state)) for state in states
+    )
+
+
+def entries(words):
+    return list(zip(words[0::2], words[1::2]))
+
+
+def minimal(states, conflict):
+    """Inconsistent, and consistent without any one member."""
+    if brute_consistent(states, conflict):
+        return False
+    for variable, value in enumerate(conflict):
+        rest = conflict[:variable] + (None,) + conflict[variable + 1 :]
+        if value is not None and not brute_consistent(states, rest):
+            return False
+    return True
+
+
+def true_offers(plant, settings, states):
+    """The offered entries that step 1 keeps where the limit allows."""
+    kept = []
+    for words in entries(settings.store[: 2 * settings.held]):
+        try:
+            if not brute_consistent(states, well_formed(plant, *words)):
+                kept.append(words)
+        except Refusal:
+            continue
+    return kept
+
+
+def check_list(result, plant, settings):
+    whole = whole_set(plant)
+    own = run_list(result)
+    if not begins(own, whole):
+        yield "the list does not begin the whole set"
+    if result.ending == "all" and own != whole:
+        yield "'all' without the whole set"
+    if result.ending == "enough" and result.listed != settings.k:
+        yield "'enough' without k"
+    if result.listed > settings.k:
+        yield "more than k listed"
+    if any(cost != cost_of_code(plant, code) for cost, code in own):
+        yield "a cost is not its code's"
+
+
+def check_counts(result):
+    if result.struck_in_reduction and result.ending != "spent":
+        yield "the limit struck without 'spent'"
+    known = result.listed + result.learned + result.unkept
+    if result.tested != known + (1 if result.struck_in_reduction else 0):
+        yield "tested is not the sum"
+
+
+def check_store(result, plant, settings):
+    states = consistent_states(plant)
+    offers = true_offers(plant, settings, states)
+    if result.ending == "spent" and result.tested == 0:
+        # The limit may have struck in step 1, with offers still unchecked.
+        choices = range(len(offers) + 1)
+    else:
+        choices = [len(offers)]
+    after = entries(result.store)
+    fits = [
+        n
+        for n in choices
+        if after[:n] == offers[:n] and not any(result.store[2 * (n + result.learned) :])
+    ]
+    if len(result.store) != len(settings.store) or not fits:
+        yield "the store is not survivors, learned, zeros"
+        return
+    kept = after[: fits[-1] + result.learned]
+    assignments = [well_formed(plant, *words) for words in kept]
+    if any(brute_consistent(states, entry) for entry in assignments):
+        yield "a stored entry is consistent"
+    if not all(minimal(states, entry) for entry in assignments[fits[-1] :]):
+        yield "a learned conflict is not minimal"
+
+
+def check_buffers(result, settings):
+    if result.queue != [0] * len(settings.queue):
+        yield "the queue is not zero"
+    if result.codes[result.listed :] != settings.codes[result.listed :]:
+        yield "codes beyond listed changed"
+    if result.costs[result.listed :] != settings.costs[result.listed :]:
+        yield "costs beyond listed changed"
+    if len(result.codes) != len(settings.codes) or len(result.costs) != len(settings.costs):
+        yield "a lent buffer changed its length"
+
+
+def check_demand3(result, plant, settings):
+    """What the result breaks of demand 3; an empty list where it holds."""
+    return [
+        *check_list(result, plant, settings),
+        *check_counts(result),
+        *check_store(result, plant, settings),
+        *check_buffers(result, settings),
+    ]
+
+
+def check_rest(result, plant, settings):
+    """Further statements of document 01 on a result."""
+    broken = []
+    if result.trials > settings.limit:
+        broken.append("trials beyond the limit")
+    if result.ending == "spent" and result.trials != settings.limit:
+        broken.append("'spent' below the limit")
+    states = prod(plant.sizes[: plant.decisions])
+    if result.ending == "full" and len(settings.queue) // 2 >= states:
+        broken.append("'full' with an entry for every state")
+    if result.unkept and any(w == (0, 0) for w in entries(result.store)):
+        broken.append("unkept with the store not full")
+    return broken
