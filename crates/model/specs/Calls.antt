@@ -92,10 +92,11 @@ pub data Run : Type 0 where
 abbrev pub Answer : Type 0
 Answer = Answered Run
 
--- a call's answer and the lent buffers after it
+-- a call's answer, the lent buffers after it, and whether the limit struck inside a reduction
 pub record Called : Type 0 where
   pub answer : Answer
   pub after : Buffers
+  pub struck : Bool
 
 abbrev pub odd : ℕ → Bool
 odd n = eqb (n % 2) 1
@@ -134,8 +135,8 @@ abbrev pub countsOf : State → Counts
 countsOf s = record { listed = length (s .listed); tested = s .tested; learned = s .learned; unkept = s .unkept; trials = s .trials }
 
 unfoldable pub calledOf : Order → Buffers → Next → Called
-calledOf o b (ended e s) = record { answer = answered (ran e (countsOf s)); after = buffersAfter o b s }
-calledOf o b (more s) = record { answer = answered unfinished; after = b }
+calledOf o b (ended e s) = record { answer = answered (ran e (countsOf s)); after = buffersAfter o b s; struck = s .struck }
+calledOf o b (more s) = record { answer = answered unfinished; after = b; struck = false }
 
 -- the run of an accepted call
 unfoldable pub runOf : Plant → ℕ → Buffers → ℕ → ℕ → Next
@@ -143,7 +144,7 @@ runOf p k b held limit = listing p (orderOf p) k (length (b .queue) / 2) (length
 
 -- a refusal changes no lent buffer
 abbrev pub refusing : Buffers → Refusal → Called
-refusing b r = record { answer = refused r; after = b }
+refusing b r = record { answer = refused r; after = b; struck = false }
 
 -- the listing call, with `resultShort` as in the host's refusals
 unfoldable pub listingWith : List ℕ → ℕ → Buffers → ℕ → ℕ → Bool → Called

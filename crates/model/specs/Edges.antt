@@ -144,9 +144,22 @@ lentAfter = call (record { sheet = small; k = 4; codes = 5; costs = 4; queue = 6
 pub lent-after : lentAfter ≡ record {
   answer = answered (ran Ending.all (record { listed = 3; tested = 4; learned = 1; unkept = 0; trials = 15 }));
   after = record { codes = three ++ (7 ∷ 7 ∷ []); costs = 3 ∷ 3 ∷ 6 ∷ 7 ∷ []; queue = replicate 6 0; store = both ∷ 0 ∷ 0 ∷ 0 ∷ [] };
+  struck = false;
 }
 unfolding lentAfter call tail small three
 lent-after = refl
+
+-- the limit strikes inside a reduction: one test is counted whose conflict was not learned
+unfoldable pub struckCall : Called
+struckCall = call (record { sheet = small; k = 1; codes = 1; costs = 1; queue = 6; store = 2; offered = []; held = 0; limit = 5 })
+
+pub struck-call : struckCall ≡ record {
+  answer = answered (ran Ending.spent (record { listed = 0; tested = 1; learned = 0; unkept = 0; trials = 5 }));
+  after = record { codes = 7 ∷ []; costs = 7 ∷ []; queue = replicate 6 0; store = 0 ∷ 0 ∷ [] };
+  struck = true;
+}
+unfolding struckCall call tail small
+struck-call = refl
 
 -- and in the export: the six result words, and one beyond them that is unchanged
 unfoldable pub exported : Exported
@@ -233,6 +246,7 @@ refusedCall = call (lengths edition2 2 2 2 2 2 0)
 pub refused-call : refusedCall ≡ record {
   answer = refused (byAuthor 6);
   after = record { codes = 7 ∷ 7 ∷ []; costs = 7 ∷ 7 ∷ []; queue = 7 ∷ 7 ∷ []; store = 7 ∷ 7 ∷ [] };
+  struck = false;
 }
 unfolding refusedCall call lengths tail edition2
 refused-call = refl

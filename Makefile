@@ -1,0 +1,5 @@
+.PHONY: prove test
+prove:
+	rt check
+test:
+	bash .ci/run

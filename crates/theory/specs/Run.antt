@@ -1,0 +1,68 @@
+-- What holds between the steps of a listing's run and at its end. Assumes nothing: these are definitions.
+use mathlib.Core.Path.{_≡_}
+use mathlib.Core.Bool.{Bool, true, false}
+use mathlib.Core.List.{List, [], _++_}
+use Prim.Native.Nat.{ℕ, _+_, _≤_, _<_}
+use lib.ListN.{length}
+use Rattle.model.specs.Lists.{All, Pairs}
+use Rattle.model.specs.Sheet.{Plant, decisionSizes}
+use Rattle.model.specs.Assignment.{Assignment, Fits, Valid, full}
+use Rattle.model.specs.Consistency.{Consistent}
+use Rattle.model.specs.Conflict.{Conflict, Minimal}
+use Rattle.model.specs.Order.{Order, Before, best, product}
+use Rattle.model.specs.Listing.{State, Ending, enough, all, Next, ended, more, mostTested}
+use Rattle.theory.specs.BestFirst.{Inv}
+use Rattle.theory.specs.Order.{In}
+use Rattle.theory.specs.Nodes.{weights, rooms}
+
+-- one where the limit struck inside a reduction
+abbrev pub strikes : Bool → ℕ
+strikes true = 1
+strikes false = 0
+
+-- f is a full consistent assignment
+abbrev pub Good : Plant → List ℕ → Type 0
+Good p f = Fits (decisionSizes p) f × Consistent p (full f)
+
+-- a node's best state comes before another's
+abbrev pub Ahead : Order → Assignment → Assignment → Type 0
+Ahead o m n = Before o (best (o .preferred) m) (best (o .preferred) n)
+
+-- the store is the survivors of step 1 and then the conflicts learned, which are minimal
+pub record Stored (p : Plant) (survivors : List Assignment) (learned : ℕ) (store : List Assignment) : Type 0 where
+  pub since : List Assignment
+  pub parts : store ≡ survivors ++ since
+  pub count : length since ≡ learned
+  pub offered : All (Conflict p) survivors
+  pub minimal : All (Minimal p) since
+
+module _ (p : Plant) (o : Order) (k limit : ℕ) (survivors : List Assignment) where
+  -- between steps, and at the end
+  pub record Kept (s : State) : Type 0 where
+    pub search : Inv (Before o) (In (decisionSizes p)) (Good p) (s .queue) (s .listed)
+    pub valid : All (Valid (decisionSizes p)) (s .queue)
+    pub ordered : Pairs (Ahead o) (s .queue)
+    pub roomy : rooms (decisionSizes p) (s .queue) ≤ product (decisionSizes p)
+    pub store : Stored p survivors (s .learned) (s .store)
+    pub sum : s .tested ≡ length (s .listed) + s .learned + s .unkept + strikes (s .struck)
+    pub tested : s .tested ≤ mostTested
+    pub trials : s .trials ≤ limit
+    pub listed : length (s .listed) ≤ k
+
+  -- between steps
+  pub record Going (s : State) : Type 0 where
+    pub kept : Kept s
+    pub unstruck : s .struck ≡ false
+
+  -- at the end, with a queue of so many entries
+  pub record Done (entries : ℕ) (e : Ending) (s : State) : Type 0 where
+    pub kept : Kept s
+    pub all-empty : e ≡ all → s .queue ≡ []
+    pub enough-listed : e ≡ enough → length (s .listed) ≡ k
+    pub struck-spent : s .struck ≡ true → e ≡ Ending.spent
+    pub full-small : e ≡ Ending.full → entries < product (decisionSizes p)
+
+  -- after a step from s: the run has ended, or goes on with less to do
+  abbrev pub Stepped : ℕ → State → Next → Type 0
+  Stepped entries s (ended e t) = Done entries e t
+  Stepped entries s (more t) = Going t × (weights (decisionSizes p) (t .queue) < weights (decisionSizes p) (s .queue))
