@@ -50,6 +50,28 @@ def small_random_plant(rng, space_most=1500):
     return shaped(rng, sizes, decisions, lengths, rng.choice(list(COST_KINDS)))
 
 
+def nogood_clause(rng, sizes, decisions, members):
+    """Forbids one part of a state, low values preferred as they are cheap."""
+    variables = sorted(rng.sample(range(decisions), members))
+    values = [min(rng.randrange(sizes[v]), rng.randrange(sizes[v])) for v in variables]
+    return tuple(Literal(v, 1, value) for v, value in zip(variables, values))
+
+
+def nogood_plant(rng):
+    """Many conflicts of two and three members, costs rising with ties."""
+    decisions = rng.randint(3, 4)
+    sizes = [rng.randint(2, 4) for _ in range(decisions)]
+    costs = tuple(tuple(sorted(rng.randrange(5) for _ in range(s))) for s in sizes)
+    clauses = []
+    for _ in range(rng.randint(4, 9)):
+        clause = nogood_clause(rng, sizes, decisions, rng.choice([2, 2, 3]))
+        # Hiding half of them behind a state variable makes the tests longer.
+        hidden = (Literal(decisions, 0, 1),) if rng.random() < 0.5 else ()
+        clauses.append(clause + hidden)
+    clauses.append((Literal(decisions, 0, 0),))
+    return Plant(costs, (2,), tuple(clauses))
+
+
 def random_assignment(rng, plant, chance=0.5):
     return tuple(
         rng.randrange(len(costs)) if rng.random() < chance else None

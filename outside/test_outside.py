@@ -13,7 +13,8 @@ import vectors
 from listing import Settings, export, leading, listing
 from plant import Refusal, encode, fields, pack, read
 from search import Meter, is_false, reduce_call, reduce_within, test, test_call
-from shapes import random_assignment, random_words, small_random_plant, spoil
+from shapes import nogood_plant, random_assignment, random_words
+from shapes import small_random_plant, spoil
 from whole import (
     begins,
     brute_consistent,
@@ -221,8 +222,8 @@ class Listings(unittest.TestCase):
     def test_demand3_on_random_plants(self):
         rng = Random(5)
         seen = set()
-        for _ in range(400):
-            plant = small_random_plant(rng, 400)
+        for place in range(400):
+            plant = small_random_plant(rng, 300) if place % 4 else nogood_plant(rng)
             lists = []
             for _ in range(2):
                 settings = random_settings(rng, plant)
@@ -321,7 +322,42 @@ def small_space(run):
     return plant if prod(plant.sizes) <= 3000 else None
 
 
+class Stream:
+    """Reads a stdin stream back as README.md describes it."""
+
+    def __init__(self, data):
+        self.data = data
+
+    def bytes(self, length):
+        taken, self.data = self.data[:length], self.data[length:]
+        return taken
+
+    def number(self, width):
+        return int.from_bytes(self.bytes(width), "big")
+
+    def sheet(self):
+        return self.bytes(self.number(2))
+
+    def call(self):
+        kind = self.number(1)
+        return vectors.Call(kind, self.sheet(), *map(self.number, (8, 8, 4)))
+
+    def run(self):
+        lent = self.sheet(), *map(self.number, (4, 2, 2, 2, 2, 2, 4))
+        given = tuple(self.number(8) for _ in range(self.number(2)))
+        return vectors.Run(*lent, given)
+
+
 class Vectors(unittest.TestCase):
+    def test_streams(self):
+        readers = {"sheets": Stream.sheet, "tests": Stream.call, "listings": Stream.run}
+        for name, reader in readers.items():
+            make, to_bytes, _ = vectors.STREAMS[name]
+            cases = make()
+            stream = Stream(b"".join(map(to_bytes, cases)))
+            self.assertEqual(cases, [reader(stream) for _ in cases])
+            self.assertEqual(b"", stream.data)
+
     def test_listings(self):
         seen = set()
         for run in vectors.listing_cases():

@@ -13,6 +13,7 @@ from listing import Settings, listing
 from plant import Literal, Plant, Refusal, encode, fields, pack, read
 from search import reduce_call, test_call, to_words
 from shapes import (
+    nogood_plant,
     random_assignment,
     random_sizes,
     random_words,
@@ -480,7 +481,7 @@ def random_run(rng, plant):
 def random_runs(rng):
     """A random run, then the same run at limits around its own trials."""
     runs = []
-    for place in range(56):
+    for place in range(36):
         plant = tight_plant(rng) if place % 2 else small_random_plant(rng)
         run = random_run(rng, plant)
         trials = answer_run(run).trials
@@ -489,6 +490,31 @@ def random_runs(rng):
             limits = [trials, trials - 1, rng.randrange(trials)]
             runs += [run._replace(limit=limit) for limit in limits]
     return runs
+
+
+def least_queue(run):
+    """The run with the fewest queue entries that do not end it 'full'."""
+    entries = 1
+    while answer_run(run._replace(queue=2 * entries)).ending == "full":
+        entries += 1
+    return run._replace(queue=2 * entries)
+
+
+def queue_runs(rng):
+    """Conflicts learned or offered in any order, the queue just long enough
+    and one entry short: what is left off, removed or kept then shows."""
+    runs = []
+    for place in range(32):
+        plant = nogood_plant(rng)
+        run = Run(encode(plant), k=200, codes=200, costs=201)
+        run = run._replace(store=2 * rng.choice([2, 5, 30]))
+        if place % 2:
+            offers = learned_by(run._replace(store=60))
+            rng.shuffle(offers)
+            run = offering(run, offers[: rng.randint(1, len(offers) + 1)])
+        run = least_queue(run)
+        runs += [run, run._replace(queue=run.queue - 2)]
+    return [run for run in runs if run.queue]
 
 
 def wide_runs(rng):
@@ -529,7 +555,8 @@ def contradiction_runs(rng):
 def listing_cases():
     rng = Random(303)
     cases = table_runs() + host_refusal_runs() + author_refusal_runs()
-    return cases + random_runs(rng) + wide_runs(rng) + contradiction_runs(rng)
+    cases += random_runs(rng) + queue_runs(rng)
+    return cases + wide_runs(rng) + contradiction_runs(rng)
 
 
 def words_bytes(words, width):

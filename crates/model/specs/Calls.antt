@@ -10,7 +10,7 @@ use Rattle.model.specs.Sheet.{Plant, Read, got, Edition, edition1, readS
 use Rattle.model.specs.Assignment.{Assignment, maskOf, valuesOf, assignmentOf, maskFits, valuesFit, code}
 use Rattle.model.specs.Consistency.{Tested, test}
 use Rattle.model.specs.Conflict.{ReducedAlone, reduceAlone}
-use Rattle.model.specs.Order.{Order, orderOf}
+use Rattle.model.specs.Order.{Order, orderOf, Entry}
 use Rattle.model.specs.Listing.{State, Ending, enough, all, full, Next, ended, more, Offer, listing}
 
 -- ---- refusals
@@ -130,6 +130,16 @@ buffersAfter o b s = record {
   queue = replicate (length (b .queue)) 0;
   store = filled (entryWords (s .store)) (replicate (length (b .store)) 0);
 }
+
+-- codes with their costs, place by place
+abbrev pub entriesOf : List ℕ → List ℕ → List Entry
+entriesOf [] ds = []
+entriesOf (c ∷ cs) [] = []
+entriesOf (c ∷ cs) (d ∷ ds) = record { code = c; figure = d } ∷ entriesOf cs ds
+
+-- a run's list: its first codes with their costs, as many as listed says
+abbrev pub runList : ℕ → Buffers → List Entry
+runList listed b = entriesOf (take listed (b .codes)) (take listed (b .costs))
 
 abbrev pub countsOf : State → Counts
 countsOf s = record { listed = length (s .listed); tested = s .tested; learned = s .learned; unkept = s .unkept; trials = s .trials }

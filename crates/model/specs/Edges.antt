@@ -341,7 +341,7 @@ pub small-read : readSmall ≡ Read.got smallPlant 160
 unfolding readSmall call tail small smallPlant
 small-read = refl
 
-pub small-whole : wholeSet smallPlant ≡
+pub small-whole : wholeSet smallPlant (orderOf smallPlant) ≡
     record { code = 0x0100000000000000; figure = 3 } ∷ record { code = 0x1000000000000000; figure = 3 } ∷ record { code = 0x1100000000000000; figure = 6 } ∷ []
 unfolding wholeSet leadingStates sorted insert isConsistent allHold clauseHolds literalHolds holdsAt smallPlant orderOf costThenCode number
 small-whole = refl

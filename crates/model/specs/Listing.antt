@@ -207,13 +207,14 @@ module _ (p : Plant) (o : Order) (k entries places limit : ℕ) where
         ]
       ]
 
-  -- step 3: 'enough', or 'all', or the node whose best state comes first is removed
+  -- step 3, further: if the queue is empty 'all', otherwise the node whose best state comes first is removed
+  unfoldable pub remove : State → List Assignment → Next
+  remove s [] = ended all s
+  remove s (n ∷ rest) = expand s rest n
+
+  -- step 3: if k are listed 'enough'
   unfoldable pub step : State → Next
-  step s =
-      elim (ltb (length (s .listed)) k) [
-        | false ↦ ended enough s
-        | true ↦ elim (s .queue) [ [] ↦ ended all s | n ∷ rest ↦ expand s rest n ]
-      ]
+  step s = elim (ltb (length (s .listed)) k) [ false ↦ ended enough s | true ↦ remove s (s .queue) ]
 
   -- so many steps at most
   unfoldable pub run : ℕ → State → Next
@@ -250,5 +251,5 @@ unfoldable pub listing : Plant → Order → ℕ → ℕ → ℕ → List Offer 
 listing p o k entries places offers limit =
     elim (checkOffers p limit [] offers 0) [
       | checked survivors used ↦ run p o k entries places limit (enoughSteps (decisionSizes p)) (start (decisionSizes p) survivors used)
-      | brokenOff survivors used ↦ ended Ending.spent (queued (start (decisionSizes p) survivors used) [])
+      | brokenOff survivors used ↦ ended Ending.spent (start (decisionSizes p) survivors used)
     ]

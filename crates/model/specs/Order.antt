@@ -118,5 +118,5 @@ abbrev pub entryOf : Order → List ℕ → Entry
 entryOf o f = record { code = code f; figure = o .figure f }
 
 -- the whole set: the codes and costs of all full consistent assignments, each once, in the order
-unfoldable pub wholeSet : Plant → List Entry
-wholeSet p = map (entryOf (orderOf p)) (leadingStates p (orderOf p))
+unfoldable pub wholeSet : Plant → Order → List Entry
+wholeSet p o = map (entryOf o) (leadingStates p o)
