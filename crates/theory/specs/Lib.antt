@@ -1,4 +1,5 @@
-pub mod Digits
 pub mod BestFirst
-pub mod Plant
+pub mod Digits
 pub mod Order
+pub mod Plant
+pub mod Tables
