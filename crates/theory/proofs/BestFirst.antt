@@ -8,29 +8,6 @@ use Rattle.model.specs.Lists.{Some, Mem, All, Pairs, Begins, keep}
 use Rattle.theory.specs.BestFirst.{Apart, Weak, Inv}
 use Rattle.theory.proofs.Lists.{some-map, some-left, some-right, some-cases, all-map, all-join, all-left, all-right, all-zip, meet, from-members, at-member, pairs-join, pairs-left, pairs-right, pairs-across, some-keep, some-unkeep, pairs-keep}
 
--- two orders of one queue: the same nodes, pair by pair
-module _ {A : Type 0} (P : A → Type 0) where
-  some-front : (xs : List A) (x : A) (ys : List A) → Some P (x ∷ (xs ++ ys)) → Some P (xs ++ (x ∷ ys))
-  some-front xs x ys (inl p) = some-right P xs (x ∷ ys) (inl p)
-  some-front xs x ys (inr s) = elim (some-cases P xs ys s) [ inl t ↦ some-left P xs (x ∷ ys) t | inr t ↦ some-right P xs (x ∷ ys) (inr t) ]
-
-  some-back : (xs : List A) (x : A) (ys : List A) → Some P (xs ++ (x ∷ ys)) → Some P (x ∷ (xs ++ ys))
-  some-back [] x ys s = s
-  some-back (y ∷ xs) x ys (inl p) = inr (inl p)
-  some-back (y ∷ xs) x ys (inr s) = elim (some-back xs x ys s) [ inl p ↦ inl p | inr t ↦ inr (inr t) ]
-
-module _ {A : Type 0} (R : A → A → Type 0) (swap : (x y : A) → R x y → R y x) where
-  pairs-back : (xs : List A) (x : A) (ys : List A) → Pairs R (xs ++ (x ∷ ys)) → Pairs R (x ∷ (xs ++ ys))
-  pairs-back xs x ys p = (
-    all-join (R x) xs ys (all-map (λ y c. swap y x (c .0)) xs (pairs-across R xs (x ∷ ys) p)) (pairs-right R xs (x ∷ ys) p .0),
-    pairs-join R xs ys (pairs-left R xs (x ∷ ys) p) (pairs-right R xs (x ∷ ys) p .1) (all-map (λ y c. c .1) xs (pairs-across R xs (x ∷ ys) p)),
-  )
-
-  pairs-front : (xs : List A) (x : A) (ys : List A) → Pairs R (x ∷ (xs ++ ys)) → Pairs R (xs ++ (x ∷ ys))
-  pairs-front xs x ys p =
-      pairs-join R xs (x ∷ ys) (pairs-left R xs ys (p .1)) (all-right (R x) xs ys (p .0), pairs-right R xs ys (p .1))
-      (all-map (λ y c. (swap x y (c .0), c .1)) xs (all-zip _ _ xs (all-left (R x) xs ys (p .0)) (pairs-across R xs ys (p .1))))
-
 module _ {F N : Type 0} (_≺_ : F → F → Type 0) (In : F → N → Type 0) (Good : F → Type 0) where
   infix 4 _≺_
   -- the first state: one node, which holds each f
@@ -43,23 +20,16 @@ module _ {F N : Type 0} (_≺_ : F → F → Type 0) (In : F → N → Type 0) (
     complete = λ f g. inr (inl (h f g));
   }
 
-  -- the queue's order is of no account
-  pub front : {listed : List F} (xs : List N) (n : N) (ys : List N) → Inv _≺_ In Good (xs ++ (n ∷ ys)) listed → Inv _≺_ In Good (n ∷ (xs ++ ys)) listed
-  front xs n ys i = record {
-    apart = pairs-back (Apart In) (λ x y a f p q. a f q p) xs n ys (i .apart);
+  -- the queue's order is of no account: another queue with the same members serves as well
+  pub requeue : {listed : List F} (queue queue′ : List N) → Pairs (Apart In) queue′
+      → ((f : F) → Some (In f) queue′ → Some (In f) queue) → ((f : F) → Some (In f) queue → Some (In f) queue′)
+      → Inv _≺_ In Good queue listed → Inv _≺_ In Good queue′ listed
+  requeue queue queue′ apart to from i = record {
+    apart = apart;
     ascending = i .ascending;
     good = i .good;
-    before = λ f s. i .before f (some-front (In f) xs n ys s);
-    complete = λ f g. elim (i .complete f g) [ inl m ↦ inl m | inr s ↦ inr (some-back (In f) xs n ys s) ];
-  }
-
-  pub back : {listed : List F} (xs : List N) (n : N) (ys : List N) → Inv _≺_ In Good (n ∷ (xs ++ ys)) listed → Inv _≺_ In Good (xs ++ (n ∷ ys)) listed
-  back xs n ys i = record {
-    apart = pairs-front (Apart In) (λ x y a f p q. a f q p) xs n ys (i .apart);
-    ascending = i .ascending;
-    good = i .good;
-    before = λ f s. i .before f (some-back (In f) xs n ys s);
-    complete = λ f g. elim (i .complete f g) [ inl m ↦ inl m | inr s ↦ inr (some-front (In f) xs n ys s) ];
+    before = λ f s. i .before f (to f s);
+    complete = λ f g. elim (i .complete f g) [ inl m ↦ inl m | inr s ↦ inr (from f s) ];
   }
 
   -- a node gives way to its children
@@ -140,19 +110,6 @@ module _ {F : Type 0} (_≺_ : F → F → Type 0) (trans : (a b c : F) → a �
   weak-trans a b c (inl e) r = rw e r
   weak-trans a b c (inr l) (inl e) = inr (rw e at l)
   weak-trans a b c (inr l) (inr m) = inr (trans a b c l m)
-
-  -- the move that lists, for a node whose best f is the best of all: with a best f of each node
-  module _ {N : Type 0} (In : F → N → Type 0) (Good : F → Type 0) (Valid : N → Type 0) (best : N → F)
-      (best-in : (n : N) → Valid n → In (best n) n)
-      (best-least : (n : N) → Valid n → (f : F) → In f n → Weak _≺_ (best n) f) where
-    pub list-best : {listed : List F} (xs : List N) (n : N) (ys : List N)
-        → Valid n → All Valid (xs ++ ys)
-        → All (λ m. Weak _≺_ (best n) (best m)) (xs ++ ys)
-        → Good (best n) → ((f : F) → In f n → f ≡ best n)
-        → Inv _≺_ In Good (xs ++ (n ∷ ys)) listed → Inv _≺_ In Good (xs ++ ys) (listed ++ (best n ∷ []))
-    list-best xs n ys v vs least ok only i = list _≺_ In Good n (xs ++ ys) (best n) ok (best-in n v) only
-        (all-map (λ m w f h. weak-trans (best n) (best m) f (w .1) (best-least m (w .0) f h)) (xs ++ ys) (all-zip Valid _ (xs ++ ys) vs least))
-        (front _≺_ In Good xs n ys i)
 
 -- ascending lists
 module _ {F : Type 0} (_≺_ : F → F → Type 0) (irrefl : (a : F) → a ≺ a → ⊥) (trans : (a b c : F) → a ≺ b → b ≺ c → a ≺ c) where

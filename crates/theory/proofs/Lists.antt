@@ -1,10 +1,14 @@
 -- Laws of Some, All, Pairs and keep. Assumes nothing.
-use mathlib.Core.Path.{_≡_, refl, sym}
+use mathlib.Core.Path.{_≡_, refl, sym, ap}
 use mathlib.Core.Logic.{_⊎_, inl, inr}
 use mathlib.Core.List.{List, [], _∷_, _++_, map}
-use mathlib.Core.Bool.{Bool, true, false}
+use mathlib.Core.Bool.{Bool, true, false, _&&_, _||_}
+use Prim.Native.Nat.{ℕ, zero, suc, _+_, _≤_, _<_}
+use native.Mathlib.Omega.{arith}
 use lib.Dec.{T}
-use Rattle.model.specs.Lists.{Some, Mem, All, Pairs, keepIf, keep}
+use lib.ListN.{length}
+use Rattle.model.specs.Lists.{Some, Mem, All, Pairs, keepIf, keep, valuesFrom}
+use Rattle.theory.specs.Nodes.{sumOf}
 
 module _ {A : Type 0} where
   pub some-map : {P Q : A → Type 0} → ((x : A) → P x → Q x) → (xs : List A) → Some P xs → Some Q xs
@@ -143,3 +147,62 @@ module _ {A B : Type 0} (g : A → B) where
   pub pairs-image : (R : B → B → Type 0) (xs : List A) → Pairs (λ x y. R (g x) (g y)) xs → Pairs R (map g xs)
   pairs-image R [] p = tt
   pairs-image R (x ∷ xs) p = (all-image (R (g x)) xs (p .0), pairs-image R xs (p .1))
+
+-- what holds of all members of one list holds of all of another, if its members are among them
+pub all-by : {A : Type 0} (P : A → Type 0) (xs ys : List A) → ((x : A) → Mem x ys → Mem x xs) → All P xs → All P ys
+all-by P xs ys h a = from-members ys (λ x m. at-member P xs a x (h x m))
+
+-- two lists in a row have the same members either way round
+pub some-swap : {A : Type 0} (P : A → Type 0) (xs ys : List A) → Some P (xs ++ ys) → Some P (ys ++ xs)
+some-swap P xs ys s = elim (some-cases P xs ys s) [ inl t ↦ some-right P ys xs t | inr t ↦ some-left P ys xs t ]
+
+-- and a symmetric relation that holds of each pair holds of each pair either way round
+pub pairs-swap : {A : Type 0} (R : A → A → Type 0) → ((x y : A) → R x y → R y x) → (xs ys : List A) → Pairs R (xs ++ ys) → Pairs R (ys ++ xs)
+pairs-swap R swap xs ys p = pairs-join R ys xs (pairs-right R xs ys p) (pairs-left R xs ys p)
+    (from-members ys (λ y m. all-map (λ x a. swap x y (at-member (R x) ys a y m)) xs (pairs-across R xs ys p)))
+
+-- what holds of all members holds of both members of each pair
+pub pairs-zip : {A : Type 0} (P : A → Type 0) (R : A → A → Type 0) (xs : List A) → All P xs → Pairs R xs → Pairs (λ x y. P x × P y × R x y) xs
+pairs-zip P R [] a p = tt
+pairs-zip P R (x ∷ xs) a p = (all-map (λ y c. (a .0, c .0, c .1)) xs (all-zip P (R x) xs (a .1) (p .0)), pairs-zip P R xs (a .1) (p .1))
+
+-- the sum over two lists in a row is the sum of the sums
+pub sum-join : {A : Type 0} (w : A → ℕ) (xs ys : List A) → sumOf w (xs ++ ys) ≡ sumOf w xs + sumOf w ys
+sum-join w [] ys = omega arith
+sum-join w (x ∷ xs) ys = omega (arith, sum-join w xs ys)
+
+-- whether an element is kept or not, the sum is at most what it is with it
+sum-if : {A : Type 0} (w : A → ℕ) (b : Bool) (x : A) (xs : List A) → sumOf w (keepIf b x xs) ≤ w x + sumOf w xs
+sum-if w true x xs = omega arith
+sum-if w false x xs = omega arith
+
+-- the sum over what a test keeps is no greater
+pub sum-keep : {A : Type 0} (w : A → ℕ) (test : A → Bool) (xs : List A) → sumOf w (keep test xs) ≤ sumOf w xs
+sum-keep w test [] = omega arith
+sum-keep w test (x ∷ xs) = omega (arith, sum-if w (test x) x (keep test xs), sum-keep w test xs)
+
+-- the length is the sum of ones
+pub sum-ones : {A : Type 0} (xs : List A) → sumOf (λ x. 1) xs ≡ length xs
+sum-ones [] = refl
+sum-ones (x ∷ xs) = omega (arith, sum-ones xs)
+
+-- where a member fails the test, fewer are kept
+pub keep-fewer : {A : Type 0} (test : A → Bool) (xs : List A) → Some (λ x. test x ≡ false) xs → length (keep test xs) < length xs
+keep-fewer test [] s = absurd s
+keep-fewer test (x ∷ xs) (inl e) = rw e (omega (arith, sum-keep (λ x. 1) test xs, sum-ones xs, sum-ones (keep test xs)))
+keep-fewer test (x ∷ xs) (inr s) = omega (arith, sum-if (λ x. 1) (test x) x (keep test xs), sum-ones (keep test (x ∷ xs)), sum-ones (keep test xs), keep-fewer test xs s)
+
+-- there are n values from x on
+pub values-length : (x n : ℕ) → length (valuesFrom x n) ≡ n
+values-length x zero = refl
+values-length x (suc n) = ap suc (values-length (x + 1) n)
+
+-- a conjunction holds only if both parts do
+pub and-both : (a b : Bool) → (a && b) ≡ true → (a ≡ true) × (b ≡ true)
+and-both true b e = (refl, e)
+and-both false b e = (e, cc)
+
+-- a disjunction fails only if both parts do
+pub or-neither : (a b : Bool) → (a || b) ≡ false → (a ≡ false) × (b ≡ false)
+or-neither true b e = (e, cc)
+or-neither false b e = (refl, e)

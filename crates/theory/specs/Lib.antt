@@ -1,5 +1,9 @@
 pub mod BestFirst
+pub mod Consistency
 pub mod Digits
+pub mod Nodes
 pub mod Order
 pub mod Plant
+pub mod Run
 pub mod Tables
+pub mod Words

@@ -4,16 +4,16 @@ use mathlib.Core.Bool.{Bool, true, false}
 use mathlib.Core.List.{List, [], _++_}
 use Prim.Native.Nat.{ℕ, _+_, _≤_, _<_}
 use lib.ListN.{length}
-use Rattle.model.specs.Lists.{All, Pairs}
+use Rattle.model.specs.Lists.{Some, All, Pairs}
 use Rattle.model.specs.Sheet.{Plant, decisionSizes}
-use Rattle.model.specs.Assignment.{Assignment, Fits, Valid, full}
+use Rattle.model.specs.Assignment.{Assignment, Fits, Valid, Agree, full}
 use Rattle.model.specs.Consistency.{Consistent}
 use Rattle.model.specs.Conflict.{Conflict, Minimal}
-use Rattle.model.specs.Order.{Order, Before, best, product}
-use Rattle.model.specs.Listing.{State, Ending, enough, all, Next, ended, more, mostTested}
-use Rattle.theory.specs.BestFirst.{Inv}
+use Rattle.model.specs.Order.{Order, Before, product}
+use Rattle.model.specs.Listing.{State, Ending, enough, all, Next, ended, more, weight, mostTested}
+use Rattle.theory.specs.BestFirst.{Apart, Inv}
 use Rattle.theory.specs.Order.{In}
-use Rattle.theory.specs.Nodes.{weights, rooms}
+use Rattle.theory.specs.Nodes.{Ordered, weights, room, rooms}
 
 -- one where the limit struck inside a reduction
 abbrev pub strikes : Bool → ℕ
@@ -24,10 +24,6 @@ strikes false = 0
 abbrev pub Good : Plant → List ℕ → Type 0
 Good p f = Fits (decisionSizes p) f × Consistent p (full f)
 
--- a node's best state comes before another's
-abbrev pub Ahead : Order → Assignment → Assignment → Type 0
-Ahead o m n = Before o (best (o .preferred) m) (best (o .preferred) n)
-
 -- the store is the survivors of step 1 and then the conflicts learned, which are minimal
 pub record Stored (p : Plant) (survivors : List Assignment) (learned : ℕ) (store : List Assignment) : Type 0 where
   pub since : List Assignment
@@ -36,13 +32,26 @@ pub record Stored (p : Plant) (survivors : List Assignment) (learned : ℕ) (sto
   pub offered : All (Conflict p) survivors
   pub minimal : All (Minimal p) since
 
+-- nodes that a node may give way to: they are parts of it with nothing in common, hold each good f of it, and leave less to do
+pub record Children (p : Plant) (n : Assignment) (children : List Assignment) : Type 0 where
+  pub inside : All (λ m. (f : List ℕ) → Agree f m → Agree f n) children
+  pub apart : Pairs (Apart Agree) children
+  pub valid : All (Valid (decisionSizes p)) children
+  pub covers : (f : List ℕ) → Good p f → Agree f n → Some (Agree f) children
+  pub lighter : weights (decisionSizes p) children < weight (decisionSizes p) n
+  pub smaller : rooms (decisionSizes p) children ≤ room (decisionSizes p) n
+
+-- what is queued and what has been listed
+pub record Searching (p : Plant) (o : Order) (queue : List Assignment) (listed : List (List ℕ)) : Type 0 where
+  pub search : Inv (Before o) (In (decisionSizes p)) (Good p) queue listed
+  pub valid : All (Valid (decisionSizes p)) queue
+  pub ordered : Ordered o queue
+  pub roomy : rooms (decisionSizes p) queue ≤ product (decisionSizes p)
+
 module _ (p : Plant) (o : Order) (k limit : ℕ) (survivors : List Assignment) where
   -- between steps, and at the end
   pub record Kept (s : State) : Type 0 where
-    pub search : Inv (Before o) (In (decisionSizes p)) (Good p) (s .queue) (s .listed)
-    pub valid : All (Valid (decisionSizes p)) (s .queue)
-    pub ordered : Pairs (Ahead o) (s .queue)
-    pub roomy : rooms (decisionSizes p) (s .queue) ≤ product (decisionSizes p)
+    pub searching : Searching p o (s .queue) (s .listed)
     pub store : Stored p survivors (s .learned) (s .store)
     pub sum : s .tested ≡ length (s .listed) + s .learned + s .unkept + strikes (s .struck)
     pub tested : s .tested ≤ mostTested

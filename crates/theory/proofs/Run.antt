@@ -1,0 +1,236 @@
+-- Each step of a run keeps what holds, or ends it; and every run ends. Assumes nothing.
+use mathlib.Core.Path.{_≡_, refl, sym, _∙_, ap}
+use mathlib.Core.Logic.{_⊎_, inl, inr}
+use mathlib.Core.Bool.{Bool, true, false, not}
+use mathlib.Core.Option.{Option, none, some}
+use mathlib.Core.List.{List, [], _∷_, _++_}
+use Prim.Native.Nat.{ℕ, zero, suc, _+_, _≤_, _<_}
+use native.Mathlib.Omega.{arith}
+use borrow.Author.Tests.{ltb-true, ltb-false}
+use lib.Dec.{ltb}
+use lib.ListN.{length, length-append}
+use Rattle.model.specs.Lists.{Some, All, Pairs}
+use Rattle.model.specs.Sheet.{Plant, decisionSizes}
+use Rattle.model.specs.Assignment.{Assignment, Fits, Valid, Agree, isFull, valueList}
+use Rattle.model.specs.Consistency.{Consistent, Tested, consistent, inconsistent, test}
+use Rattle.model.specs.Conflict.{Conflict, Minimal, resolves, Reduced, conflict, reduce}
+use Rattle.model.specs.Order.{Order, product}
+use Rattle.model.specs.Listing.{State, Ending, enough, all, Next, ended, more, weight, manifestsAny, firstUnresolved, resolving, branching, leaveOff, enqueueAll, queued, listedOne, unkeptOne, learnedOne, spentInTest, spentInReduction, mostTested, putChildren, learn, judge, expand, remove, step, run}
+use Rattle.theory.specs.BestFirst.{Apart}
+use Rattle.theory.specs.Order.{In, Lawful}
+use Rattle.theory.specs.Consistency.{VariablesPresent, Counted}
+use Rattle.theory.specs.Nodes.{sumOf, weights, room, rooms}
+use Rattle.theory.specs.Run.{Good, strikes, Stored, Children, Searching, Kept, Going, Done, Stepped}
+use Rattle.theory.proofs.Lists.{sum-keep}
+use Rattle.theory.proofs.Nodes.{weight-pos, rooms-length}
+use Rattle.theory.proofs.Test.{test-consistent, test-inconsistent}
+use Rattle.theory.proofs.TestTrials.{test-trials}
+use Rattle.theory.proofs.Reduction.{reduce-minimal}
+use Rattle.theory.proofs.ReductionTrials.{reduce-trials}
+use Rattle.theory.proofs.Moves.{stored-conflicts, stored-more, branching-children, resolving-children, searching-put, searching-sieve, searching-drop, searching-list}
+use Rattle.theory.proofs.Queue.{enqueueAll-sum}
+
+-- two endings are not the same
+differ : {A : Type 0} → _≡_ {A = ℕ} 0 1 → A
+differ z = absurd (omega arith)
+
+module _ (p : Plant) (o : Order) (law : Lawful (decisionSizes p) o) (present : VariablesPresent p) (k entries places limit : ℕ) (survivors : List Assignment) where
+  -- the ends of a run that are 'spent': what is kept is all there is to show
+  pub spent-done : (s : State) → Kept p o k limit survivors s → Done p o k limit survivors entries Ending.spent s
+  spent-done s h = record {
+    kept = h;
+    all-empty = λ e. differ (cc);
+    enough-listed = λ e. differ (cc);
+    struck-spent = λ e. refl;
+    full-small = λ e. differ (cc);
+  }
+
+  module _ (s : State) (g : Going p o k limit survivors s) (n : Assignment) (rest : List Assignment) (head : s .queue ≡ n ∷ rest) where
+    -- what is searched, with the node that is removed in front
+    front : Searching p o (n ∷ rest) (s .listed)
+    front = rw head at (g .kept .searching)
+
+    -- the queue without the node weighs less
+    lighter : weights (decisionSizes p) rest < weights (decisionSizes p) (s .queue)
+    lighter = rw head (omega (arith, weight-pos (decisionSizes p) n))
+
+    -- the sum of the tallies, while the limit has not struck
+    sum : s .tested ≡ length (s .listed) + s .learned + s .unkept
+    sum = let h = g .kept .sum in let e : strikes (s .struck) ≡ 0 = ap strikes (g .unstruck) in omega arith
+
+    module _ (whole : isFull n ≡ true) (below : s .tested < mostTested) (room : length (s .listed) < k) where
+      -- step 7, consistent
+      step-listed : (t : ℕ) → t ≤ limit → Consistent p n → Stepped p o k limit survivors entries s (more (listedOne s rest (valueList n) t))
+      step-listed t h c = (record {
+        kept = record {
+          searching = searching-list p o law front whole c;
+          store = g .kept .store;
+          sum = simp length-append (rw (g .unstruck) (omega (arith, sum)));
+          tested = omega arith;
+          trials = h;
+          listed = simp length-append (omega arith);
+        };
+        unstruck = g .unstruck;
+      }, lighter)
+
+      module _ (bad : Consistent p n → ⊥) where
+        -- step 7, inconsistent with the store full
+        step-unkept : (t : ℕ) → t ≤ limit → Stepped p o k limit survivors entries s (more (unkeptOne s rest t))
+        step-unkept t h = (record {
+          kept = record {
+            searching = searching-drop p o law front whole bad;
+            store = g .kept .store;
+            sum = rw (g .unstruck) (omega (arith, sum));
+            tested = omega arith;
+            trials = h;
+            listed = g .kept .listed;
+          };
+          unstruck = g .unstruck;
+        }, lighter)
+
+        -- step 7, inconsistent and learned
+        step-learned : (c : Assignment) (t : ℕ) → t ≤ limit → Minimal p c → Stepped p o k limit survivors entries s (more (learnedOne s rest c t))
+        step-learned c t h m = (record {
+          kept = record {
+            searching = searching-sieve p o law (c ∷ []) (m .conflict, tt) (searching-drop p o law front whole bad);
+            store = stored-more p c m (g .kept .store);
+            sum = rw (g .unstruck) (omega (arith, sum));
+            tested = omega arith;
+            trials = h;
+            listed = g .kept .listed;
+          };
+          unstruck = g .unstruck;
+        }, omega (arith, lighter, sum-keep (weight (decisionSizes p)) (λ m. not (manifestsAny (c ∷ []) m)) rest))
+
+        -- step 7, inconsistent: the reduction
+        learn-stepped : (t : ℕ) → t ≤ limit → Stepped p o k limit survivors entries s (learn p o k entries places limit s rest n t)
+        unfolding learn
+        learn-stepped t h = go (ltb (length (s .store)) places) refl (reduce p limit n t) refl
+          where
+            go : (b : Bool) → ltb (length (s .store)) places ≡ b → (r : Reduced) → reduce p limit n t ≡ r → Stepped p o k limit survivors entries s (learn p o k entries places limit s rest n t)
+            go false e r f = rw (learn, e) (step-unkept t h)
+            go true e (conflict c t′) f = rw (learn, e, f)
+                (step-learned c t′ (rw f at (reduce-trials p limit n t .within h)) (reduce-minimal p present limit n (front .valid .0) bad t c t′ f))
+            go true e (Reduced.spent t′) f = rw (learn, e, f) (spent-done (spentInReduction s t′) (record {
+              searching = g .kept .searching;
+              store = g .kept .store;
+              sum = omega (arith, sum);
+              tested = omega arith;
+              trials = rw f at (reduce-trials p limit n t .within h);
+              listed = g .kept .listed;
+            }))
+
+    -- step 7
+    judge-stepped : isFull n ≡ true → length (s .listed) < k → Stepped p o k limit survivors entries s (judge p o k entries places limit s rest n)
+    unfolding judge
+    judge-stepped whole room = go (ltb (s .tested) mostTested) refl (test p limit n (s .trials)) refl
+      where
+        go : (b : Bool) → ltb (s .tested) mostTested ≡ b → (r : Tested) → test p limit n (s .trials) ≡ r → Stepped p o k limit survivors entries s (judge p o k entries places limit s rest n)
+        go false e r f = rw (judge, e) (spent-done s (g .kept))
+        go true e (consistent w t) f = rw (judge, e, f)
+            (step-listed whole (ltb-true _ _ e) room t (rw f at (test-trials p limit n (s .trials) .within (g .kept .trials)))
+            (w, test-consistent p present limit n (front .valid .0) (s .trials) w t f))
+        go true e (inconsistent t) f = rw (judge, e, f)
+            (learn-stepped whole (ltb-true _ _ e) room (test-inconsistent p present limit n (front .valid .0) (s .trials) t f) t
+            (rw f at (test-trials p limit n (s .trials) .within (g .kept .trials))))
+        go true e (Tested.spent t) f = rw (judge, e, f) (spent-done (spentInTest s t) (record {
+          searching = g .kept .searching;
+          store = g .kept .store;
+          sum = g .kept .sum;
+          tested = g .kept .tested;
+          trials = rw f at (test-trials p limit n (s .trials) .within (g .kept .trials));
+          listed = g .kept .listed;
+        }))
+
+    -- step 6: 'full' only where the queue has fewer entries than there are full assignments
+    put-stepped : (sized : All (λ m. 1 ≤ m) (decisionSizes p)) (children : List Assignment) → Children p n children
+        → Stepped p o k limit survivors entries s (putChildren p o k entries places limit s rest children)
+    unfolding putChildren
+    put-stepped sized children c = go (ltb entries (length rest + length others)) refl
+      where
+        ss : List ℕ
+        ss = decisionSizes p
+
+        others : List Assignment
+        others = leaveOff (s .store) children
+
+        fewer : (w : Assignment → ℕ) → sumOf w others ≤ sumOf w children
+        fewer w = sum-keep w (λ m. not (manifestsAny (s .store) m)) children
+
+        go : (b : Bool) → ltb entries (length rest + length others) ≡ b → Stepped p o k limit survivors entries s (putChildren p o k entries places limit s rest children)
+        go true e = rw (putChildren, e) (record {
+          kept = g .kept;
+          all-empty = λ d. differ (cc);
+          enough-listed = λ d. differ (cc);
+          struck-spent = λ d. differ (cc (g .unstruck));
+          full-small = λ d. omega (arith, ltb-true entries (length rest + length others) e, front .roomy, c .smaller, fewer (room ss), rooms-length ss rest sized, rooms-length ss others sized);
+        })
+        go false e = rw (putChildren, e) (record {
+          kept = record {
+            searching = searching-put p o law front (s .store) children (stored-conflicts p (g .kept .store)) c;
+            store = g .kept .store;
+            sum = g .kept .sum;
+            tested = g .kept .tested;
+            trials = g .kept .trials;
+            listed = g .kept .listed;
+          };
+          unstruck = g .unstruck;
+        }, rw (enqueueAll-sum o (weight ss) others rest, head) (omega (arith, c .lighter, fewer (weight ss))))
+
+    -- the first unresolved conflict is one of the store's, and unresolved
+    unresolved : (store : List Assignment) → All (Conflict p) store → (c : Assignment) → firstUnresolved store n ≡ some c → Conflict p c × (resolves n c ≡ false)
+    unresolved [] a c e = differ (cc)
+    unresolved (d ∷ store) a c e = go (resolves n d) refl (unresolved store (a .1) c)
+      where
+        go : (b : Bool) → resolves n d ≡ b → (firstUnresolved store n ≡ some c → Conflict p c × (resolves n c ≡ false)) → Conflict p c × (resolves n c ≡ false)
+        go true f ih = ih (rw (firstUnresolved, f) at e)
+        go false f ih = let h : some d ≡ some c = rw (firstUnresolved, f) at e in let q : d ≡ c = cc in (rw q at (a .0), rw q at f)
+
+    -- steps 4 to 7
+    expand-stepped : All (λ m. 1 ≤ m) (decisionSizes p) → length (s .listed) < k → Stepped p o k limit survivors entries s (expand p o k entries places limit s rest n)
+    unfolding expand
+    expand-stepped sized room = go (firstUnresolved (s .store) n) refl (isFull n) refl
+      where
+        go : (u : Option Assignment) → firstUnresolved (s .store) n ≡ u → (b : Bool) → isFull n ≡ b → Stepped p o k limit survivors entries s (expand p o k entries places limit s rest n)
+        go (some c) e b f =
+            let h = unresolved (s .store) (stored-conflicts p (g .kept .store)) c e in
+            rw (expand, e) (put-stepped sized (resolving (decisionSizes p) n c) (resolving-children p n (front .valid .0) c (h .0) (h .1)))
+        go none e true f = rw (expand, e, f) (judge-stepped f room)
+        go none e false f = rw (expand, e, f) (put-stepped sized (branching (decisionSizes p) n) (branching-children p n (front .valid .0) f))
+
+  module _ (sized : All (λ m. 1 ≤ m) (decisionSizes p)) where
+    -- steps 3 to 7
+    step-stepped : (s : State) → Going p o k limit survivors s → Stepped p o k limit survivors entries s (step p o k entries places limit s)
+    unfolding step remove
+    step-stepped s g = go (ltb (length (s .listed)) k) refl (s .queue) refl
+      where
+        go : (b : Bool) → ltb (length (s .listed)) k ≡ b → (q : List Assignment) → s .queue ≡ q → Stepped p o k limit survivors entries s (step p o k entries places limit s)
+        go false e q f = rw (step, e) (record {
+          kept = g .kept;
+          all-empty = λ d. differ (cc);
+          enough-listed = λ d. omega (arith, ltb-false (length (s .listed)) k e, g .kept .listed);
+          struck-spent = λ d. differ (cc (g .unstruck));
+          full-small = λ d. differ (cc);
+        })
+        go true e [] f = rw (step, e, ap (remove p o k entries places limit s) f) (record {
+          kept = g .kept;
+          all-empty = λ d. f;
+          enough-listed = λ d. differ (cc);
+          struck-spent = λ d. differ (cc (g .unstruck));
+          full-small = λ d. differ (cc);
+        })
+        go true e (n ∷ rest) f = rw (step, e, ap (remove p o k entries places limit s) f) (expand-stepped s g n rest f sized (ltb-true _ _ e))
+
+    -- with more steps than the queue weighs, the run ends
+    pub run-done : (fuel : ℕ) (s : State) → weights (decisionSizes p) (s .queue) < fuel → Going p o k limit survivors s
+        → (e : Ending) × (t : State) × (run p o k entries places limit fuel s ≡ ended e t) × Done p o k limit survivors entries e t
+    unfolding run
+    run-done zero s h g = absurd (omega arith)
+    run-done (suc fuel) s h g = go (step p o k entries places limit s) refl (step-stepped s g) (run-done fuel)
+      where
+        go : (x : Next) → step p o k entries places limit s ≡ x → Stepped p o k limit survivors entries s x
+            → ((t : State) → weights (decisionSizes p) (t .queue) < fuel → Going p o k limit survivors t
+                → (e : Ending) × (u : State) × (run p o k entries places limit fuel t ≡ ended e u) × Done p o k limit survivors entries e u)
+            → (e : Ending) × (t : State) × (run p o k entries places limit (suc fuel) s ≡ ended e t) × Done p o k limit survivors entries e t
+        go (ended e t) q d ih = (e, t, rw (run, q), d)
+        go (more t) q d ih = let r = ih t (omega (arith, d .1)) (d .0) in (r .0, r .1, rw (run, q) (r .2), r .3)

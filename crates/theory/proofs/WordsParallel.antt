@@ -1,0 +1,242 @@
+-- Bit operations on words of nibbles act on each nibble by itself, so that a node and a conflict are compared, and a best state is made, for all variables at once. Assumes nothing.
+use mathlib.Core.Path.{_≡_, refl, sym, ap, ap₂, _∙_}
+use mathlib.Core.Bool.{Bool, true, false, not, _&&_, _||_}
+use mathlib.Core.Option.{Option, none, some}
+use mathlib.Core.List.{List, [], _∷_, _++_, map, map-append, map-map}
+use Prim.Native.Nat.{ℕ, zero, suc, _+_, _-_, _*_, _^_, _≤_, _<_}
+use native.Mathlib.Omega.{arith}
+use native.Mathlib.Nat.{mod-eq-of-lt}
+use lib.Bits.{bitAnd, bitOr, bitXor, and-block, or-block, xor-block, and-lt, or-lt, xor-lt, and-zero-r, or-zero-l, or-zero-r, xor-zero-r, xor-self, and-mask, and-le-l, and-le-r, xor-add-and}
+use lib.Dec.{eqb}
+use lib.ListN.{length, replicate, length-map}
+use borrow.Author.Tests.{eq-eqb, ne-eqb, eqb-true, eqb-false}
+use Rattle.model.specs.Lists.{All}
+use Rattle.model.specs.Digits.{number, digits}
+use Rattle.model.specs.Assignment.{Assignment, Under, bit, nibble, allZero, code}
+use Rattle.model.specs.Conflict.{contains, manifests, differs, resolves}
+use Rattle.model.specs.Order.{valueOr, best}
+use Rattle.theory.specs.Digits.{Below}
+use Rattle.theory.specs.Words.{Words, fifteen, wideOf}
+use Rattle.theory.proofs.Digits.{number-below, number-zeros, digits-number, zero-from}
+use Rattle.theory.proofs.Words.{nibbles-below, mask-digits}
+use Rattle.theory.proofs.WordsSet.{pow-four}
+
+-- ---- an operation on words of nibbles
+
+-- n is the word whose first nibbles are these d
+record Nibbles (d n : ℕ) (ds : List ℕ) : Type 0 where
+  is : n ≡ number 16 16 ds
+  below : Below 16 ds
+  long : length ds ≡ d
+
+module _ (op : ℕ → ℕ → ℕ) where
+  -- an operation on the elements of two lists in turn
+  abbrev each : List ℕ → List ℕ → List ℕ
+  each [] ys = []
+  each (x ∷ xs) [] = []
+  each (x ∷ xs) (y ∷ ys) = op x y ∷ each xs ys
+
+  -- it gives as many
+  each-length : (xs ys : List ℕ) → length xs ≡ length ys → length (each xs ys) ≡ length xs
+  each-length [] ys e = refl
+  each-length (x ∷ xs) [] e = absurd (omega arith)
+  each-length (x ∷ xs) (y ∷ ys) e = ap suc (each-length xs ys (omega arith))
+
+  module _ (low : (k x y : ℕ) → x < 2 ^ k → y < 2 ^ k → op x y < 2 ^ k)
+      (block : (k a b r s : ℕ) → r < 2 ^ k → s < 2 ^ k → op (a * 2 ^ k + r) (b * 2 ^ k + s) ≡ op a b * 2 ^ k + op r s) where
+    -- of digits of base 16 it makes digits of base 16
+    each-below : (xs ys : List ℕ) → Below 16 xs → Below 16 ys → Below 16 (each xs ys)
+    each-below [] ys l m = tt
+    each-below (x ∷ xs) [] l m = tt
+    each-below (x ∷ xs) (y ∷ ys) l m = (low 4 x y (l .0) (m .0), each-below xs ys (l .1) (m .1))
+
+    -- on two numbers that go by blocks of four bits it goes by those blocks
+    each-number : (k : ℕ) (xs ys : List ℕ) → op 0 0 ≡ 0 → Below 16 xs → Below 16 ys → length xs ≡ length ys → op (number 16 k xs) (number 16 k ys) ≡ number 16 k (each xs ys)
+    unfolding number
+    each-number zero xs ys z l m e = z
+    each-number (suc k) [] [] z l m e = z
+    each-number (suc k) [] (y ∷ ys) z l m e = absurd (omega arith)
+    each-number (suc k) (x ∷ xs) [] z l m e = absurd (omega arith)
+    each-number (suc k) (x ∷ xs) (y ∷ ys) z l m e =
+        rw (← each-number k xs ys z (l .1) (m .1) (omega arith), ← pow-four k)
+        (block (4 * k) x y (number 16 k xs) (number 16 k ys) (rw (pow-four k) (number-below 16 k xs (omega arith) (l .1))) (rw (pow-four k) (number-below 16 k ys (omega arith) (m .1))))
+
+    -- the same of words
+    each-nibbles : {d m n : ℕ} {xs ys : List ℕ} → op 0 0 ≡ 0 → Nibbles d m xs → Nibbles d n ys → Nibbles d (op m n) (each xs ys)
+    each-nibbles {xs = xs} {ys = ys} z p q = record {
+      is = rw (p .is, q .is) (each-number 16 xs ys z (p .below) (q .below) (omega (arith, p .long, q .long)));
+      below = each-below xs ys (p .below) (q .below);
+      long = each-length xs ys (omega (arith, p .long, q .long)) ∙ p .long;
+    }
+
+module _ {d m n : ℕ} {xs ys : List ℕ} (p : Nibbles d m xs) (q : Nibbles d n ys) where
+  -- of the conjunction
+  and-nibbles : Nibbles d (bitAnd m n) (each bitAnd xs ys)
+  and-nibbles = each-nibbles bitAnd and-lt and-block refl p q
+
+  -- of the disjunction
+  or-nibbles : Nibbles d (bitOr m n) (each bitOr xs ys)
+  or-nibbles = each-nibbles bitOr or-lt or-block refl p q
+
+  -- of the exclusive disjunction
+  xor-nibbles : Nibbles d (bitXor m n) (each bitXor xs ys)
+  xor-nibbles = each-nibbles bitXor xor-lt xor-block refl p q
+
+-- zeros that follow do not matter
+zero-more : (ds : List ℕ) (n : ℕ) → allZero (ds ++ replicate n 0) ≡ allZero ds
+zero-more [] zero = refl
+zero-more [] (suc n) = zero-more [] n
+zero-more (d ∷ ds) n = ap (λ (t : Bool). eqb d 0 && t) (zero-more ds n)
+
+-- a word is zero exactly when each of its nibbles is
+nibbles-zero : {d n : ℕ} {ds : List ℕ} → Nibbles d n ds → d ≤ 16 → eqb n 0 ≡ allZero ds
+nibbles-zero {d} {n} {ds} p h =
+    let small : n < 16 ^ 16 = rw (p .is) (number-below 16 16 ds (omega arith) (p .below)) in
+    ap (λ (m : ℕ). eqb m 0) (sym (mod-eq-of-lt small))
+    ∙ sym (zero-from 16 16 0 n (omega arith) (omega arith))
+    ∙ rw (p .is, digits-number 16 16 ds (omega arith) (p .below) (omega (arith, p .long))) (zero-more ds (16 - length ds))
+
+-- ---- the widened mask
+
+-- fifteen for an assigned variable, zero for an unassigned one
+abbrev spread : Option ℕ → ℕ
+spread o = fifteen (bit o)
+
+-- zeros after the digits of a number do not matter
+number-more : (b k : ℕ) (ds : List ℕ) (n : ℕ) → number b k (ds ++ replicate n 0) ≡ number b k ds
+unfolding number
+number-more b zero ds n = refl
+number-more b (suc k) [] n = number-zeros b (suc k) n
+number-more b (suc k) (d ∷ ds) n = ap (λ (r : ℕ). d * b ^ k + r) (number-more b k ds n)
+
+-- fifteen times zero is zero, at each place
+fifteen-zeros : (n : ℕ) → map fifteen (replicate n 0) ≡ replicate n 0
+fifteen-zeros zero = refl
+fifteen-zeros (suc n) = ap {B = List ℕ} (λ r. 0 ∷ r) (fifteen-zeros n)
+
+-- they are digits of base 16
+spreads-below : (a : Assignment) → Below 16 (map spread a)
+spreads-below [] = tt
+spreads-below (none ∷ a) = (omega arith, spreads-below a)
+spreads-below (some x ∷ a) = (omega arith, spreads-below a)
+
+module _ (a : Assignment) (mask values : ℕ) (w : Words a mask values) where
+  -- the nibbles of the values
+  values-nibbles : Nibbles (length a) values (map nibble a)
+  values-nibbles = record { is = w .values-is; below = nibbles-below a (w .small); long = length-map a nibble }
+
+  -- the nibbles of the widened mask
+  wide-nibbles : Nibbles (length a) (wideOf mask) (map spread a)
+  unfolding wideOf
+  wide-nibbles = record {
+    is = rw (w .mask-is, mask-digits a (omega (arith, w .short)), map-append fifteen (map bit a) (replicate (64 - length a) 0), fifteen-zeros (64 - length a), map-map fifteen bit a)
+        (number-more 16 16 (map spread a) (64 - length a));
+    below = spreads-below a;
+    long = length-map a spread;
+  }
+
+-- ---- one variable
+
+-- two numbers are equal exactly when no bit differs
+xor-zero : (x y : ℕ) → eqb (bitXor x y) 0 ≡ eqb x y
+xor-zero x y = go (eqb x y) refl
+  where
+    go : (t : Bool) → eqb x y ≡ t → eqb (bitXor x y) 0 ≡ eqb x y
+    go true e = rw (eqb-true x y e, xor-self y) (sym (eq-eqb y y refl))
+    go false e = ne-eqb (bitXor x y) 0 (λ z. eqb-false x y e (omega (arith, xor-add-and x y, and-le-l x y, and-le-r x y))) ∙ sym e
+
+-- a nibble masked by fifteen is itself
+whole : (z : ℕ) → z < 16 → bitAnd z 15 ≡ z
+whole z h = and-mask z 4 ∙ mod-eq-of-lt h
+
+-- two values masked by fifteen are equal exactly when no bit differs
+masked-zero : (x y : ℕ) → x < 16 → y < 16 → eqb (bitAnd (bitXor x y) 15) 0 ≡ eqb x y
+masked-zero x y h k = rw (whole (bitXor x y) (xor-lt 4 x y h k)) (xor-zero x y)
+
+-- a nibble that is zero exactly where the variable contains the conflict's
+contains-nibble : (o p : Option ℕ) → Under 16 o → Under 16 p
+    → eqb (bitOr (bitXor (bitAnd (spread o) (spread p)) (spread p)) (bitAnd (bitXor (nibble o) (nibble p)) (spread p))) 0 ≡ contains o p
+contains-nibble o none u t = rw (and-zero-r (spread o), and-zero-r (bitXor (nibble o) 0))
+contains-nibble none (some y) u t = ne-eqb (bitOr 15 (bitAnd (bitXor 0 y) 15)) 0 (λ e. omega arith)
+contains-nibble (some x) (some y) u t = masked-zero x y u t
+
+-- a nibble that is other than zero exactly where the variable differs from the conflict's
+differs-nibble : (o p : Option ℕ) → Under 16 o → Under 16 p → not (eqb (bitAnd (bitAnd (bitXor (nibble o) (nibble p)) (spread o)) (spread p)) 0) ≡ differs o p
+differs-nibble none p u t = rw (and-zero-r (bitXor 0 (nibble p)))
+differs-nibble (some x) none u t = rw (and-zero-r (bitAnd (bitXor x 0) 15))
+differs-nibble (some x) (some y) u t = rw (whole (bitAnd (bitXor x y) 15) (and-lt 4 (bitXor x y) 15 (xor-lt 4 x y u t) (omega arith)), masked-zero x y u t)
+
+-- the nibble of the variable's value, or else of the preferred one
+best-nibble : (x : ℕ) (o : Option ℕ) → x < 16 → bitOr (nibble o) (bitXor x (bitAnd x (spread o))) ≡ valueOr x o
+best-nibble x none h = rw (and-zero-r x, xor-zero-r x) (or-zero-l x)
+best-nibble x (some y) h = rw (whole x h, xor-self x) (or-zero-r y)
+
+-- ---- all variables
+
+-- a negated conjunction
+not-and : (s t : Bool) → not (s && t) ≡ (not s || not t)
+not-and true t = refl
+not-and false t = refl
+
+module _ (n c : Assignment) where
+  -- the nibbles that are zero where a node contains a conflict
+  abbrev missing : List ℕ
+  missing = each bitOr (each bitXor (each bitAnd (map spread n) (map spread c)) (map spread c)) (each bitAnd (each bitXor (map nibble n) (map nibble c)) (map spread c))
+
+  -- the nibbles that are other than zero where a node resolves a conflict
+  abbrev differing : List ℕ
+  differing = each bitAnd (each bitAnd (each bitXor (map nibble n) (map nibble c)) (map spread n)) (map spread c)
+
+-- nothing is missing exactly when the node manifests the conflict
+missing-all : (n c : Assignment) → length n ≡ length c → All (Under 16) n → All (Under 16) c → allZero (missing n c) ≡ manifests n c
+missing-all [] [] e s t = refl
+missing-all [] (p ∷ c) e s t = absurd (omega arith)
+missing-all (o ∷ n) [] e s t = absurd (omega arith)
+missing-all (o ∷ n) (p ∷ c) e s t = ap₂ _&&_ (contains-nibble o p (s .0) (t .0)) (missing-all n c (omega arith) (s .1) (t .1))
+
+-- something differs exactly when the node resolves the conflict
+differing-all : (n c : Assignment) → length n ≡ length c → All (Under 16) n → All (Under 16) c → not (allZero (differing n c)) ≡ resolves n c
+differing-all [] [] e s t = refl
+differing-all [] (p ∷ c) e s t = absurd (omega arith)
+differing-all (o ∷ n) [] e s t = absurd (omega arith)
+differing-all (o ∷ n) (p ∷ c) e s t =
+    not-and (eqb (bitAnd (bitAnd (bitXor (nibble o) (nibble p)) (spread o)) (spread p)) 0) (allZero (differing n c))
+    ∙ ap₂ _||_ (differs-nibble o p (s .0) (t .0)) (differing-all n c (omega arith) (s .1) (t .1))
+
+-- each nibble of a best state
+best-all : (preferred : List ℕ) (a : Assignment) → length preferred ≡ length a → Below 16 preferred
+    → each bitOr (map nibble a) (each bitXor preferred (each bitAnd preferred (map spread a))) ≡ best preferred a
+best-all [] [] e l = refl
+best-all [] (o ∷ a) e l = absurd (omega arith)
+best-all (x ∷ preferred) [] e l = absurd (omega arith)
+best-all (x ∷ preferred) (o ∷ a) e l = ap₂ (λ (y : ℕ) (r : List ℕ). y ∷ r) (best-nibble x o (l .0)) (best-all preferred a (omega arith) (l .1))
+
+-- ---- the words
+
+module _ (n c : Assignment) (nm nv cm cv : ℕ) (p : Words n nm nv) (q : Words c cm cv) (e : length n ≡ length c) where
+  -- the nibbles of the conflict's widened mask
+  conflict-wide : Nibbles (length n) (wideOf cm) (map spread c)
+  conflict-wide = rw (← e) at (wide-nibbles c cm cv q)
+
+  -- the nibbles in which the values differ
+  difference : Nibbles (length n) (bitXor nv cv) (each bitXor (map nibble n) (map nibble c))
+  difference = xor-nibbles (values-nibbles n nm nv p) (rw (← e) at (values-nibbles c cm cv q))
+
+  -- a word that is zero exactly where the node manifests the conflict
+  pub manifests-word : eqb (bitOr (bitXor (bitAnd (wideOf nm) (wideOf cm)) (wideOf cm)) (bitAnd (bitXor nv cv) (wideOf cm))) 0 ≡ manifests n c
+  manifests-word =
+      nibbles-zero (or-nibbles (xor-nibbles (and-nibbles (wide-nibbles n nm nv p) conflict-wide) conflict-wide) (and-nibbles difference conflict-wide)) (p .short)
+      ∙ missing-all n c e (p .small) (q .small)
+
+  -- a word that is zero exactly where the node does not resolve the conflict
+  pub resolves-word : not (eqb (bitAnd (bitAnd (bitXor nv cv) (wideOf nm)) (wideOf cm)) 0) ≡ resolves n c
+  resolves-word =
+      ap not (nibbles-zero (and-nibbles (and-nibbles difference (wide-nibbles n nm nv p)) conflict-wide) (p .short))
+      ∙ differing-all n c e (p .small) (q .small)
+
+-- the word of a best state, from the values and the widened mask of a node and the code of the preferred values
+pub best-word : (preferred : List ℕ) (a : Assignment) (mask values : ℕ) → Words a mask values → length preferred ≡ length a → Below 16 preferred
+    → bitOr values (bitXor (code preferred) (bitAnd (code preferred) (wideOf mask))) ≡ code (best preferred a)
+best-word preferred a mask values w e l =
+    let c : Nibbles (length a) (code preferred) preferred = record { is = refl; below = l; long = e } in
+    or-nibbles (values-nibbles a mask values w) (xor-nibbles c (and-nibbles c (wide-nibbles a mask values w))) .is ∙ ap (number 16 16) (best-all preferred a e l)
