@@ -164,7 +164,7 @@ horner-number b (suc k) n (d ∷ ds) h =
     rw (suc-sub-suc k (length ds), e) (omega (arith, horner-number b k (n * b + d) ds (omega arith), add-mul (n * b) d (b ^ k)))
 
 -- of two numbers one is less, or they are equal
-trichotomy : (x y : ℕ) → (x < y) ⊎ ((x ≡ y) ⊎ (y < x))
+pub trichotomy : (x y : ℕ) → (x < y) ⊎ ((x ≡ y) ⊎ (y < x))
 trichotomy x y = elim (decLt x y) [ yes h ↦ inl h | no h ↦ elim (decLt y x) [ yes k ↦ inr (inr k) | no k ↦ inr (inl (omega arith)) ] ]
 
 -- of two lists of equal length one comes first, or they are equal

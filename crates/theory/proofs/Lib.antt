@@ -9,6 +9,7 @@ pub mod Listing
 pub mod Lists
 pub mod Moves
 pub mod Nodes
+pub mod Order
 pub mod Queue
 pub mod Reduction
 pub mod ReductionSteps
@@ -19,6 +20,7 @@ pub mod Test
 pub mod TestClauses
 pub mod TestSteps
 pub mod TestTrials
+pub mod Whole
 pub mod Words
 pub mod WordsCost
 pub mod WordsParallel

@@ -1,14 +1,14 @@
 -- The children of a node, its best state, and what measures of a node say of its children. Assumes nothing.
 use mathlib.Core.Path.{_≡_, refl, sym, _∙_, ap}
 use mathlib.Core.Logic.{_⊎_, inl, inr, _≢_}
-use mathlib.Core.Bool.{Bool, true, false, not, _&&_, _||_}
+use mathlib.Core.Bool.{true, false, not}
 use mathlib.Core.Option.{Option, none, some}
-use mathlib.Core.List.{List, [], _∷_, _++_, map}
+use mathlib.Core.List.{List, [], _∷_, map}
 use Prim.Native.Nat.{ℕ, zero, suc, _+_, _*_, _≤_, _<_}
 use native.Mathlib.Omega.{arith}
 use native.Mathlib.Decide.{ℕ-discrete}
-use native.Mathlib.Nat.{suc-mul, zero-mul, mul-zero, mul-suc, mul-add, add-mul, mul-comm, mul-le-mul-left, mul-le-mul-right, mul-pos}
-use lib.Dec.{T, T-not, not-T, eqb, eqb→eq, eqb-refl}
+use native.Mathlib.Nat.{suc-mul, zero-mul, mul-zero, mul-add, add-mul, mul-comm, mul-le-mul-left, mul-le-mul-right, mul-pos}
+use lib.Dec.{T-not, not-T, eqb, eqb→eq, eqb-refl}
 use lib.ListN.{length, getD, set}
 use borrow.Author.Tests.{eqb-true, eq-eqb, not-false}
 use Rattle.model.specs.Lists.{Some, Mem, All, Pairs, valuesFrom}

@@ -1,5 +1,5 @@
 -- Lists that are kept in order by putting each element at its place: the listing's queue, by best states, and sorting. Assumes nothing.
-use mathlib.Core.Path.{_≡_, refl, ap}
+use mathlib.Core.Path.{_≡_, refl}
 use mathlib.Core.Logic.{_⊎_, inl, inr, _↔_, _≢_}
 use mathlib.Core.Bool.{Bool, true, false, not}
 use mathlib.Core.List.{List, [], _∷_, _++_}
@@ -7,14 +7,14 @@ use Prim.Native.Nat.{ℕ, suc, _+_}
 use native.Mathlib.Omega.{arith}
 use lib.Dec.{T, T-not}
 use lib.ListN.{length}
-use Rattle.model.specs.Lists.{Some, Mem, All, Pairs}
+use Rattle.model.specs.Lists.{Some, All, Pairs}
 use Rattle.model.specs.Assignment.{Assignment, Fits, Valid}
 use Rattle.model.specs.Order.{Order, Before, best}
 use Rattle.model.specs.Listing.{enqueue, enqueueAll}
 use Rattle.theory.specs.BestFirst.{Apart, Inv}
 use Rattle.theory.specs.Order.{In, Lawful}
 use Rattle.theory.specs.Nodes.{sumOf, Ordered, Placing, PlacingAll}
-use Rattle.theory.proofs.Lists.{some-map, all-map, all-zip, all-by, some-swap, pairs-swap, pairs-map, pairs-zip, sum-ones}
+use Rattle.theory.proofs.Lists.{all-map, all-zip, all-by, some-swap, pairs-swap, pairs-map, pairs-zip, sum-ones}
 use Rattle.theory.proofs.Nodes.{best-in, best-fits}
 
 -- ---- one element
@@ -186,14 +186,14 @@ module _ (o : Order) where
 -- ---- the queue's order
 
 module _ (ss : List ℕ) (o : Order) (l : Lawful ss o) where
+  -- of two different full assignments one comes first
+  pub either-first : (f g : List ℕ) → Fits ss f → Fits ss g → f ≢ g → Before o f g ⊎ Before o g f
+  either-first f g h k d = elim (l .total f g h k) [ inl t ↦ inl t | inr t ↦ elim t [ inl e ↦ absurd (d e) | inr u ↦ inr u ] ]
+
   -- of two valid nodes with different best states one is earlier
   compares : (m n : Assignment) → Valid ss m → Valid ss n → best (o .preferred) m ≢ best (o .preferred) n → T (earlier o m n) ⊎ T (earlier o n m)
   unfolding earlier
-  compares m n v w d =
-      elim (l .total (best (o .preferred) m) (best (o .preferred) n) (best-fits ss (o .preferred) m (l .preferred) v) (best-fits ss (o .preferred) n (l .preferred) w)) [
-        | inl t ↦ inl t
-        | inr t ↦ elim t [ inl e ↦ absurd (d e) | inr u ↦ inr u ]
-      ]
+  compares m n v w = either-first (best (o .preferred) m) (best (o .preferred) n) (best-fits ss (o .preferred) m (l .preferred) v) (best-fits ss (o .preferred) n (l .preferred) w)
 
   -- nodes with no full assignment in common have different best states
   pub apart-best : (m n : Assignment) → Valid ss m → Valid ss n → Apart (In ss) m n → best (o .preferred) m ≢ best (o .preferred) n

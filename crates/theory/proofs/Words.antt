@@ -19,6 +19,7 @@ use Rattle.model.specs.Assignment.{Assignment, Under, Valid, bit, nibble, maskO
 use Rattle.theory.specs.Digits.{Below}
 use Rattle.theory.specs.Words.{Words}
 use Rattle.theory.proofs.Digits.{digits-length, digits-below, number-below, digits-number, number-take, zero-from, number-zeros}
+use Rattle.theory.proofs.Agreement.{valid-length}
 
 -- ---- the digits of the words
 
@@ -139,13 +140,6 @@ words-empty d l = record {
 
 -- ---- within the domains
 
--- a valid assignment has an optional value for each variable
-pub valid-length : (domains : List ℕ) (a : Assignment) → Valid domains a → length a ≡ length domains
-valid-length [] [] v = refl
-valid-length [] (o ∷ a) v = absurd v
-valid-length (s ∷ domains) [] v = absurd v
-valid-length (s ∷ domains) (o ∷ a) v = ap suc (valid-length domains a (v .1))
-
 -- within domains of at most 16 values each value is below 16
 pub valid-small : (domains : List ℕ) (a : Assignment) → All (λ s. s ≤ 16) domains → Valid domains a → All (Under 16) a
 valid-small [] [] z v = tt
@@ -153,14 +147,6 @@ valid-small [] (o ∷ a) z v = absurd v
 valid-small (s ∷ domains) [] z v = absurd v
 valid-small (s ∷ domains) (none ∷ a) z v = (tt, valid-small domains a (z .1) (v .1))
 valid-small (s ∷ domains) (some x ∷ a) z v = (omega (arith, z .0, v .0), valid-small domains a (z .1) (v .1))
-
--- a value in its variable's domain leaves an assignment valid
-pub valid-set : (domains : List ℕ) (a : Assignment) (v : ℕ) (o : Option ℕ) → Under (getD domains v 0) o → Valid domains a → Valid domains (set a v o)
-valid-set [] [] v o u h = tt
-valid-set [] (p ∷ a) v o u h = absurd h
-valid-set (s ∷ domains) [] v o u h = absurd h
-valid-set (s ∷ domains) (p ∷ a) zero o u h = (u, h .1)
-valid-set (s ∷ domains) (p ∷ a) (suc v) o u h = (h .0, valid-set domains a v o u (h .1))
 
 -- ---- well formed
 

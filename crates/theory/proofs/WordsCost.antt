@@ -11,13 +11,7 @@ use Rattle.model.specs.Order.{cost}
 use Rattle.theory.specs.Digits.{Below}
 use Rattle.theory.specs.Words.{rows, HasRows}
 use Rattle.theory.proofs.Digits.{digits-number}
-
--- values within domains are as many as the domains
-pub fits-length : (domains f : List ℕ) → Fits domains f → length f ≡ length domains
-fits-length [] [] h = refl
-fits-length [] (x ∷ f) h = absurd h
-fits-length (s ∷ domains) [] h = absurd h
-fits-length (s ∷ domains) (x ∷ f) h = ap suc (fits-length domains f (h .1))
+use Rattle.theory.proofs.Agreement.{fits-length}
 
 -- values within domains of at most 16 values are digits of base 16
 pub fits-below : (domains f : List ℕ) → All (λ s. s ≤ 16) domains → Fits domains f → Below 16 f
