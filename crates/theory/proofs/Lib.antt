@@ -2,9 +2,12 @@ pub mod Agreement
 pub mod BestFirst
 pub mod BruteForce
 pub mod Containment
+pub mod Corollaries
+pub mod Demand3
 pub mod Digits
 pub mod Every
 pub mod Fields
+pub mod Impostors
 pub mod Listing
 pub mod Lists
 pub mod Moves

@@ -1,5 +1,6 @@
 pub mod BestFirst
 pub mod Consistency
+pub mod Demand3
 pub mod Digits
 pub mod Nodes
 pub mod Order

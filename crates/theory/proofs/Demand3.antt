@@ -1,0 +1,202 @@
+-- Demand 3 of every accepted call, and what follows for two runs. Assumes nothing.
+use mathlib.Core.Path.{_≡_, refl, sym, _∙_, ap}
+use mathlib.Core.Logic.{_⊎_, inl, inr}
+use mathlib.Core.Bool.{Bool, true, false, not, _||_}
+use mathlib.Core.Option.{Option, none, some}
+use mathlib.Core.List.{List, [], _∷_, _++_, map, map-append, append-assoc}
+use Prim.Native.Nat.{ℕ, zero, suc, _+_, _/_, _≤_, _<_}
+use native.Mathlib.Omega.{arith}
+use borrow.Author.Tests.{ltb-false}
+use lib.Dec.{ltb, T}
+use lib.ListN.{length, getD, take, drop, length-map, List·getD-map, List·getD-append}
+use lib.Seq.{take-at, drop-at}
+use Rattle.model.specs.Lists.{Some, Mem, All, Pairs, Begins, filled}
+use Rattle.model.specs.Sheet.{Plant, Read, got, Edition, edition1, readSheet, decisionSizes}
+use Rattle.model.specs.Assignment.{Assignment, Fits, code, full}
+use Rattle.model.specs.Consistency.{Consistent}
+use Rattle.model.specs.Order.{Order, Before, orderOf, Entry, entryOf, isConsistent, leadingStates, wholeSet}
+use Rattle.model.specs.Listing.{State, Ending, enough, all, Next, ended, Offer, listing}
+use Rattle.model.specs.Calls.{Ground, firstGiven, refused, answered, Buffers, Counts, ran, Called, hostGrounds, offersOf, entryWords, buffersAfter, countsOf, entriesOf, runList, calledOf, runOf, refusing, listingWith}
+use Rattle.theory.specs.BestFirst.{Inv}
+use Rattle.theory.specs.Plant.{Accepted, Sized}
+use Rattle.theory.specs.Order.{In, Lawful}
+use Rattle.theory.specs.Consistency.{VariablesPresent}
+use Rattle.theory.specs.Run.{Good, Done}
+use Rattle.theory.specs.Demand3.{StoreAfter, Demand3, Promised}
+use Rattle.theory.proofs.Lists.{at-member, all-map, all-image}
+use Rattle.theory.proofs.BestFirst.{listed-first, listed-all}
+use Rattle.theory.proofs.BruteForce.{is-consistent}
+use Rattle.theory.proofs.Whole.{leading-sound, leading-complete, leading-ascending}
+use Rattle.theory.proofs.Order.{code-injective, cost-lawful}
+use Rattle.theory.proofs.Sheet.{accepted}
+use Rattle.theory.proofs.Test.{accepted-present}
+use Rattle.theory.proofs.Listing.{listing-done}
+
+-- ---- the whole set and a run's states
+
+module _ (p : Plant) (o : Order) where
+  -- the members of the whole set's states are the good ones
+  leading-good : (f : List ℕ) → Mem f (leadingStates p o) → Good p f
+  leading-good f m = let h = leading-sound p o f m in (h .0, is-consistent p (full f) .0 (h .1))
+
+  good-leading : (f : List ℕ) → Good p f → Mem f (leadingStates p o)
+  good-leading f g = leading-complete p o f (g .0) (is-consistent p (full f) .1 (g .1))
+
+  module _ (law : Lawful (decisionSizes p) o) {queue : List Assignment} {listed : List (List ℕ)} (i : Inv (Before o) (In (decisionSizes p)) (Good p) queue listed) where
+    -- the states listed begin the states of the whole set
+    states-begin : Begins listed (leadingStates p o)
+    states-begin = listed-first (Before o) (law .irreflexive) (law .transitive) (In (decisionSizes p)) (Good p)
+        (leadingStates p o) (leading-ascending p o law) leading-good good-leading i
+
+  -- and are all of them once nothing is queued
+  states-all : Lawful (decisionSizes p) o → {listed : List (List ℕ)} → Inv (Before o) (In (decisionSizes p)) (Good p) [] listed → listed ≡ leadingStates p o
+  states-all law i = listed-all (Before o) (law .irreflexive) (law .transitive) (In (decisionSizes p)) (Good p)
+      (leadingStates p o) (leading-ascending p o law) leading-good good-leading i
+
+-- a list that begins another begins it also after a map
+begins-map : {A B : Type 0} (g : A → B) (xs ys : List A) → Begins xs ys → Begins (map g xs) (map g ys)
+begins-map g xs ys b = (map g (b .0), ap (map g) (b .1) ∙ map-append g xs (b .0))
+
+-- ---- the filled buffers
+
+-- a buffer's first places after it was filled, and those after them
+module _ {A : Type 0} (xs buffer : List A) where
+  filled-take : take (length xs) (filled xs buffer) ≡ xs
+  filled-take = take-at xs (drop (length xs) buffer) (length xs) refl
+
+  filled-drop : drop (length xs) (filled xs buffer) ≡ drop (length xs) buffer
+  filled-drop = drop-at xs (drop (length xs) buffer) (length xs) refl
+
+-- the codes and figures of states, place by place
+entries-map : (o : Order) (fs : List (List ℕ)) → entriesOf (map code fs) (map (o .figure) fs) ≡ map (entryOf o) fs
+entries-map o [] = refl
+entries-map o (f ∷ fs) = ap {B = List Entry} (λ r. entryOf o f ∷ r) (entries-map o fs)
+
+module _ (o : Order) (b : Buffers) (s : State) where
+  -- a run's list is the codes and figures of the states listed
+  run-list : runList (length (s .listed)) (buffersAfter o b s) ≡ map (entryOf o) (s .listed)
+  unfolding buffersAfter
+  run-list =
+      let c : take (length (s .listed)) (filled (map code (s .listed)) (b .codes)) ≡ map code (s .listed) =
+          rw (← length-map (s .listed) code) (filled-take (map code (s .listed)) (b .codes)) in
+      let d : take (length (s .listed)) (filled (map (o .figure) (s .listed)) (b .costs)) ≡ map (o .figure) (s .listed) =
+          rw (← length-map (s .listed) (o .figure)) (filled-take (map (o .figure) (s .listed)) (b .costs)) in
+      rw (c, d) (entries-map o (s .listed))
+
+-- ---- places of a list
+
+module _ {A : Type 0} (d : A) where
+  -- what holds of all holds at each place
+  all-at : (P : A → Type 0) (xs : List A) → All P xs → (i : ℕ) → i < length xs → P (getD xs i d)
+  all-at P [] a i h = absurd (omega arith)
+  all-at P (x ∷ xs) a zero h = a .0
+  all-at P (x ∷ xs) a (suc i) h = all-at P xs (a .1) i (omega arith)
+
+  -- in an ascending list, what comes before the member at a place stands at an earlier place
+  module _ (R : A → A → Type 0) (irreflexive : (x : A) → R x x → ⊥) (transitive : (x y z : A) → R x y → R y z → R x z) where
+    earlier : (f : A) (xs : List A) → Pairs R xs → Mem f xs → (i : ℕ) → i < length xs → R f (getD xs i d) → (j : ℕ) × (j < i) × (getD xs j d ≡ f)
+    earlier f [] p m i h r = absurd m
+    earlier f (x ∷ xs) p (inl e) zero h r = absurd (irreflexive x (rw e at r))
+    earlier f (x ∷ xs) p (inl e) (suc i) h r = (0, omega arith, sym e)
+    earlier f (x ∷ xs) p (inr m) zero h r = absurd (irreflexive x (transitive x f x (at-member (R x) xs (p .0) f m) r))
+    earlier f (x ∷ xs) p (inr m) (suc i) h r = let t = earlier f xs (p .1) m i (omega arith) r in (suc (t .0), omega (arith, t .1), t .2)
+
+-- a place that was filled from a mapped list
+filled-at : {A : Type 0} (g : A → ℕ) (xs : List A) (buffer : List ℕ) (d : A) (i : ℕ) → i < length xs → getD (filled (map g xs) buffer) i 0 ≡ g (getD xs i d)
+filled-at g xs buffer d i h = List·getD-append (map g xs) (drop (length (map g xs)) buffer) 0 i (rw (length-map xs g) h) ∙ mapped xs i h
+  where
+    mapped : (ys : List _) (i : ℕ) → i < length ys → getD (map g ys) i 0 ≡ g (getD ys i d)
+    mapped [] i h = absurd (omega arith)
+    mapped (y ∷ ys) zero h = refl
+    mapped (y ∷ ys) (suc i) h = mapped ys i (omega arith)
+
+-- ---- demand 3 of a finished run
+
+module _ (p : Plant) (o : Order) (law : Lawful (decisionSizes p) o) (short : length (decisionSizes p) ≤ 16) (small : All (λ s. s ≤ 16) (decisionSizes p)) where
+  module _ (k limit : ℕ) (survivors : List Assignment) (b : Buffers) (e : Ending) (s : State) (done : Done p o k limit survivors (length (b .queue) / 2) e s) where
+    -- the search at its end
+    search : Inv (Before o) (In (decisionSizes p)) (Good p) (s .queue) (s .listed)
+    search = done .kept .searching .search
+
+    -- the state at a place
+    state-at : (i : ℕ) → i < length (s .listed) → Good p (getD (s .listed) i [])
+    state-at = all-at [] (Good p) (s .listed) (search .good)
+
+    -- one that comes before it stands at an earlier place: it is listed, for all that is queued comes later
+    state-earlier : (i : ℕ) → i < length (s .listed) → (f : List ℕ) → Good p f → Before o f (getD (s .listed) i []) → (j : ℕ) × (j < i) × (getD (s .listed) j [] ≡ f)
+    state-earlier i h f g r = go (search .complete f g)
+      where
+        go : Mem f (s .listed) ⊎ Some (In (decisionSizes p) f) (s .queue) → (j : ℕ) × (j < i) × (getD (s .listed) j [] ≡ f)
+        go (inl m) = earlier [] (Before o) (law .irreflexive) (law .transitive) f (s .listed) (search .ascending) m i h r
+        go (inr q) = absurd (law .irreflexive f (law .transitive f (getD (s .listed) i []) f r (all-at [] (λ x. Before o x f) (s .listed) (search .before f q) i h)))
+
+    pub demand3-done : Demand3 p o k b limit e (countsOf s) (buffersAfter o b s) (s .struck)
+    unfolding wholeSet buffersAfter
+    demand3-done = record {
+      begins = rw (run-list o b s) (begins-map (entryOf o) (s .listed) (leadingStates p o) (states-begin p o law search));
+      as-counted = ap length (run-list o b s) ∙ length-map (s .listed) (entryOf o);
+      at-most-k = done .kept .listed;
+      all-whole = λ q. run-list o b s ∙ ap (map (entryOf o)) (states-all p o law (rw (done .all-empty q) at search));
+      enough-k = done .enough-listed;
+      sum = done .kept .sum;
+      struck-spent = done .struck-spent;
+      states = λ i h. (getD (s .listed) i [], state-at i h, filled-at code (s .listed) (b .codes) [] i h, filled-at (o .figure) (s .listed) (b .costs) [] i h);
+      gapless = λ i h f g gf gg q r.
+          let same : getD (s .listed) i [] ≡ g = code-injective (decisionSizes p) (getD (s .listed) i []) g short small (state-at i h .0) (gg .0)
+              (sym (filled-at code (s .listed) (b .codes) [] i h) ∙ q) in
+          let t = state-earlier i h f gf (rw same r) in
+          (t .0, t .1, filled-at code (s .listed) (b .codes) [] (t .0) (omega (arith, t .1)) ∙ ap code (t .2));
+      stored = record {
+        survivors = survivors;
+        since = done .kept .store .since;
+        words = rw (done .kept .store .parts);
+        counted = done .kept .store .count;
+        conflicts = done .kept .store .offered;
+        minimal = done .kept .store .minimal;
+      };
+      tested-most = done .kept .tested;
+      trials-most = done .kept .trials;
+      full-small = done .full-small;
+      codes-kept = rw (← length-map (s .listed) code) (filled-drop (map code (s .listed)) (b .codes));
+      costs-kept = rw (← length-map (s .listed) (o .figure)) (filled-drop (map (o .figure) (s .listed)) (b .costs));
+      queue-zero = refl;
+    }
+
+-- ---- every call
+
+-- what an accepted sheet gives
+module _ (sheet : List ℕ) (p : Plant) (end : ℕ) (e : readSheet edition1 sheet ≡ got p end) where
+  sheet-accepted : Accepted edition1 p
+  sheet-accepted = accepted sheet p end e .0
+
+  sheet-short : length (p .costs) ≤ 16
+  unfolding edition1
+  sheet-short = sheet-accepted .decisions
+
+  sheet-sized : All Sized (decisionSizes p)
+  sheet-sized = all-image length Sized (p .costs) (sheet-accepted .decision-sizes)
+
+  pub sheet-lawful : Lawful (decisionSizes p) (orderOf p)
+  sheet-lawful = cost-lawful p sheet-short (sheet-accepted .decision-sizes)
+
+  -- an accepted call's run ends, and demand 3 holds of it
+  pub run-demand3 : (k : ℕ) (b : Buffers) (held limit : ℕ)
+      → (ending : Ending) × (s : State) × (runOf p k b held limit ≡ ended ending s) × Demand3 p (orderOf p) k b limit ending (countsOf s) (buffersAfter (orderOf p) b s) (s .struck)
+  unfolding runOf
+  run-demand3 k b held limit =
+      let r = listing-done p (orderOf p) sheet-lawful (accepted-present edition1 p sheet-accepted) (all-map (λ s h. h .0) (decisionSizes p) sheet-sized) k limit
+          (length (b .queue) / 2) (length (b .store) / 2) (offersOf held (b .store)) in
+      (r .1, r .2, r .3, demand3-done p (orderOf p) sheet-lawful (rw (length-map (p .costs) length) sheet-short) (all-map (λ s h. h .1) (decisionSizes p) sheet-sized)
+          k limit (r .0) b (r .1) (r .2) (r .4))
+
+-- whatever is asked, a refusal changes nothing, and anything else is a run of which demand 3 holds
+pub promised : (sheet : List ℕ) (k : ℕ) (b : Buffers) (held limit : ℕ) (resultShort : Bool) → Promised sheet k b limit (listingWith sheet k b held limit resultShort)
+unfolding listingWith calledOf
+promised sheet k b held limit resultShort = go (firstGiven (hostGrounds k b held resultShort)) refl (readSheet edition1 sheet) refl
+  where
+    go : (h : Option ℕ) → firstGiven (hostGrounds k b held resultShort) ≡ h → (r : Read Plant) → readSheet edition1 sheet ≡ r → Promised sheet k b limit (listingWith sheet k b held limit resultShort)
+    go (some n) q r e = rw (listingWith, q) refl
+    go none q (Read.refused n) e = rw (listingWith, q, e) refl
+    go none q (got p end) e =
+        let t = run-demand3 sheet p end e k b held limit in
+        rw (listingWith, q, e, t .2) (p, end, e, t .3)

@@ -1,0 +1,72 @@
+-- Results that demand 3 rules out: an invented tally, a state left out, one listed twice, 'all' with a state missing, 'enough' with one too few, a wrong cost. Assumes nothing.
+use mathlib.Core.Path.{_≡_, refl, sym, _∙_, ap}
+use mathlib.Core.Bool.{Bool, true, false}
+use mathlib.Core.List.{List, [], _∷_, _++_}
+use Prim.Native.Nat.{ℕ, _+_, _≤_}
+use native.Mathlib.Omega.{arith}
+use lib.ListN.{length, getD}
+use Rattle.model.specs.Lists.{Begins}
+use Rattle.model.specs.Sheet.{Plant}
+use Rattle.model.specs.Order.{Order, Entry, orderOf, wholeSet}
+use Rattle.model.specs.Listing.{Ending, enough, all}
+use Rattle.model.specs.Calls.{Buffers, Counts, runList}
+use Rattle.model.specs.Edges.{smallPlant, small-whole}
+use Rattle.theory.specs.Run.{strikes}
+use Rattle.theory.specs.Demand3.{Demand3}
+
+-- the limit strikes at most once
+strikes-most : (b : Bool) → strikes b ≤ 1
+strikes-most true = omega arith
+strikes-most false = omega arith
+
+module _ {p : Plant} {o : Order} {k : ℕ} {before : Buffers} {limit : ℕ} {e : Ending} {c : Counts} {after : Buffers} {struck : Bool}
+    (d : Demand3 p o k before limit e c after struck) where
+  -- a tally two too high
+  pub no-invented-tally : c .tested ≡ c .listed + c .learned + c .unkept + 2 → ⊥
+  no-invented-tally h = omega (arith, d .sum, strikes-most struck)
+
+  -- one too high where the limit did not strike inside a reduction
+  pub no-tally-too-high : struck ≡ false → c .tested ≡ c .listed + c .learned + c .unkept + 1 → ⊥
+  no-tally-too-high f h = let z : strikes struck ≡ 0 = ap strikes f in omega (arith, d .sum)
+
+  -- 'enough' with one too few
+  pub no-enough-short : e ≡ enough → c .listed + 1 ≡ k → ⊥
+  no-enough-short f h = omega (arith, d .enough-k f)
+
+-- the small plant's three entries
+abbrev first : Entry
+first = record { code = 0x0100000000000000; figure = 3 }
+
+abbrev second : Entry
+second = record { code = 0x1000000000000000; figure = 3 }
+
+abbrev third : Entry
+third = record { code = 0x1100000000000000; figure = 6 }
+
+module _ {k : ℕ} {before : Buffers} {limit : ℕ} {e : Ending} {c : Counts} {after : Buffers} {struck : Bool}
+    (d : Demand3 smallPlant (orderOf smallPlant) k before limit e c after struck) where
+  -- its lists begin these three
+  begins-three : {xs : List Entry} → runList (c .listed) after ≡ xs → Begins xs (first ∷ second ∷ third ∷ [])
+  begins-three {xs} h = rw (h, small-whole) at (d .begins)
+
+  -- the second state left out
+  pub no-state-left-out : runList (c .listed) after ≡ first ∷ third ∷ [] → ⊥
+  no-state-left-out h = let z : _≡_ {A = ℕ} 0x1000000000000000 0x1100000000000000 = ap (λ (l : List Entry). getD l 1 first .code) (begins-three h .1) in omega arith
+
+  -- the first one listed twice
+  pub no-state-twice : runList (c .listed) after ≡ first ∷ first ∷ [] → ⊥
+  no-state-twice h = let z : _≡_ {A = ℕ} 0x1000000000000000 0x0100000000000000 = ap (λ (l : List Entry). getD l 1 first .code) (begins-three h .1) in omega arith
+
+  -- the first two in the order of arrival
+  pub no-ties-turned : runList (c .listed) after ≡ second ∷ first ∷ [] → ⊥
+  no-ties-turned h = let z : _≡_ {A = ℕ} 0x1000000000000000 0x0100000000000000 = ap (λ (l : List Entry). getD l 1 first .code) (begins-three h .1) in omega arith
+
+  -- a wrong cost
+  pub no-wrong-cost : runList (c .listed) after ≡ record { code = 0x0100000000000000; figure = 4 } ∷ [] → ⊥
+  no-wrong-cost h = let z : _≡_ {A = ℕ} 3 4 = ap (λ (l : List Entry). getD l 0 first .figure) (begins-three h .1) in omega arith
+
+  -- 'all' with the third state missing
+  pub no-all-short : e ≡ all → runList (c .listed) after ≡ first ∷ second ∷ [] → ⊥
+  no-all-short f h =
+      let b : first ∷ second ∷ [] ≡ first ∷ second ∷ third ∷ [] = sym h ∙ d .all-whole f ∙ small-whole in
+      let z : _≡_ {A = ℕ} 2 3 = ap length b in omega arith

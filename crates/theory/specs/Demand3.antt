@@ -1,0 +1,63 @@
+-- Demand 3: one statement about a run's whole result, and what every call promises. Assumes nothing: these are definitions.
+use mathlib.Core.Path.{_≡_}
+use mathlib.Core.Bool.{Bool, true}
+use mathlib.Core.List.{List, _++_}
+use Prim.Native.Nat.{ℕ, _+_, _/_, _≤_, _<_}
+use lib.ListN.{length, getD, drop, replicate}
+use Rattle.model.specs.Lists.{All, Begins, filled}
+use Rattle.model.specs.Sheet.{Plant, got, edition1, readSheet, decisionSizes}
+use Rattle.model.specs.Assignment.{Assignment, code}
+use Rattle.model.specs.Conflict.{Conflict, Minimal}
+use Rattle.model.specs.Order.{Order, Before, orderOf, product, wholeSet}
+use Rattle.model.specs.Listing.{Ending, enough, all, mostTested}
+use Rattle.model.specs.Calls.{refused, answered, Buffers, Counts, ran, unfinished, Answer, Called, entryWords, runList}
+use Rattle.theory.specs.Run.{strikes, Good}
+
+-- the store after a run: conflicts that survived step 1, then minimal ones that were learned, then zeros
+pub record StoreAfter (p : Plant) (learned : ℕ) (before after : List ℕ) : Type 0 where
+  pub survivors : List Assignment
+  pub since : List Assignment
+  pub words : after ≡ filled (entryWords (survivors ++ since)) (replicate (length before) 0)
+  pub counted : length since ≡ learned
+  pub conflicts : All (Conflict p) survivors
+  pub minimal : All (Minimal p) since
+
+-- what holds of a run with so many states wanted, the lent buffers before, a trial limit, its ending, its counts, the buffers after, and whether the limit struck inside a reduction
+pub record Demand3 (p : Plant) (o : Order) (k : ℕ) (before : Buffers) (limit : ℕ) (e : Ending) (c : Counts) (after : Buffers) (struck : Bool) : Type 0 where
+  -- the list begins the whole set
+  pub begins : Begins (runList (c .listed) after) (wholeSet p o)
+  -- it is as long as listed says, which is at most k
+  pub as-counted : length (runList (c .listed) after) ≡ c .listed
+  pub at-most-k : c .listed ≤ k
+  -- 'all' gives the whole set, 'enough' exactly k
+  pub all-whole : e ≡ all → runList (c .listed) after ≡ wholeSet p o
+  pub enough-k : e ≡ enough → c .listed ≡ k
+  -- the sum of the tallies: one more exactly when the limit struck inside a reduction, which ends the run 'spent'
+  pub sum : c .tested ≡ c .listed + c .learned + c .unkept + strikes struck
+  pub struck-spent : struck ≡ true → e ≡ Ending.spent
+  -- each place holds the code of a full consistent assignment with its cost
+  pub states : (i : ℕ) → i < c .listed → (f : List ℕ) × Good p f × (getD (after .codes) i 0 ≡ code f) × (getD (after .costs) i 0 ≡ o .figure f)
+  -- no full consistent assignment stands before the first or between neighbours: one that comes before the state at a place stands at an earlier place
+  pub gapless : (i : ℕ) → i < c .listed → (f g : List ℕ) → Good p f → Good p g → getD (after .codes) i 0 ≡ code g → Before o f g
+      → (j : ℕ) × (j < i) × (getD (after .codes) j 0 ≡ code f)
+  -- survivors and learned are conflicts, and the learned ones minimal
+  pub stored : StoreAfter p (c .learned) (before .store) (after .store)
+  -- the counts' bounds
+  pub tested-most : c .tested ≤ mostTested
+  pub trials-most : c .trials ≤ limit
+  -- 'full' only where the queue has fewer entries than the product of the sizes
+  pub full-small : e ≡ Ending.full → length (before .queue) / 2 < product (decisionSizes p)
+  -- codes and costs beyond listed are unchanged, and the queue is zero
+  pub codes-kept : drop (c .listed) (after .codes) ≡ drop (c .listed) (before .codes)
+  pub costs-kept : drop (c .listed) (after .costs) ≡ drop (c .listed) (before .costs)
+  pub queue-zero : after .queue ≡ replicate (length (before .queue)) 0
+
+-- what a listing call promises of any input: a refusal changes no lent buffer; any other answer is a run with one of the four endings, of the plant that the sheet says, and demand 3 holds of it
+abbrev pub PromisedBy : List ℕ → ℕ → Buffers → ℕ → Answer → Buffers → Bool → Type 0
+PromisedBy sheet k before limit (refused r) after struck = after ≡ before
+PromisedBy sheet k before limit (answered (ran e c)) after struck =
+    (p : Plant) × (end : ℕ) × (readSheet edition1 sheet ≡ got p end) × Demand3 p (orderOf p) k before limit e c after struck
+PromisedBy sheet k before limit (answered unfinished) after struck = ⊥
+
+abbrev pub Promised : List ℕ → ℕ → Buffers → ℕ → Called → Type 0
+Promised sheet k before limit called = PromisedBy sheet k before limit (called .answer) (called .after) (called .struck)
