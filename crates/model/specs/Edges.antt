@@ -6,12 +6,13 @@ use mathlib.Core.List.{List, [], _∷_, _++_}
 use Prim.Native.Nat.{ℕ}
 use lib.Dec.{ltb}
 use lib.ListN.{replicate}
+use Rattle.model.specs.Lists.{place, placeAll}
 use Rattle.model.specs.Digits.{number}
 use Rattle.model.specs.Sheet.{Plant, Read, edition1, readSheet}
 use Rattle.model.specs.Assignment.{Assignment}
 use Rattle.model.specs.Consistency.{Tested, consistent, inconsistent, test, holdsAt, literalHolds, clauseHolds, allHold}
 use Rattle.model.specs.Conflict.{Reduced, conflict, ReducedAlone, nothing, reduced, reduceAlone}
-use Rattle.model.specs.Order.{Order, costThenCode, orderOf, insert, sorted, isConsistent, leadingStates, wholeSet}
+use Rattle.model.specs.Order.{Order, costThenCode, orderOf, isConsistent, leadingStates, wholeSet}
 use Rattle.model.specs.Listing.{State, Ending, Next, ended, more, resolving, mostTested, spentInTest, judge, listing}
 use Rattle.model.specs.Calls.{byHost, byAuthor, Answered, refused, answered, Called, ran, wordGrounds, onWords, testCall, reduceCall, exportedOf, exportCall, Exported}
 use Rattle.model.specs.Examples.{Settings, Shown, refusal, shown, call, shows, plain, lent, tail, small, emptyClause, damaged, seventeen, both, selector, three}
@@ -343,5 +344,5 @@ small-read = refl
 
 pub small-whole : wholeSet smallPlant (orderOf smallPlant) ≡
     record { code = 0x0100000000000000; figure = 3 } ∷ record { code = 0x1000000000000000; figure = 3 } ∷ record { code = 0x1100000000000000; figure = 6 } ∷ []
-unfolding wholeSet leadingStates sorted insert isConsistent allHold clauseHolds literalHolds holdsAt smallPlant orderOf costThenCode number
+unfolding wholeSet leadingStates place placeAll isConsistent allHold clauseHolds literalHolds holdsAt smallPlant orderOf costThenCode number
 small-whole = refl

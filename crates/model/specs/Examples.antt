@@ -4,13 +4,14 @@ use mathlib.Core.Bool.{Bool, true, false}
 use mathlib.Core.List.{List, [], _∷_, _++_}
 use Prim.Native.Nat.{ℕ, _*_, _-_, _/_}
 use lib.ListN.{length, take, replicate}
+use Rattle.model.specs.Lists.{place, placeAll}
 use Rattle.model.specs.Digits.{number, digits}
 use Rattle.model.specs.Sheet.{bitAt, bitsAt, then, many, field, edition1, decisionsAllowed, readDecision, readState, readLiteral, readClause, readFiller, readEnd, readBody, readSheet}
 use Rattle.model.specs.Assignment.{assignmentOf, maskFits, valuesFit, wellFormed}
 use Rattle.model.specs.Consistency.{holdsAt, literalFails, clauseFalse, anyFalse, orElse, tryValues, explore, test}
 use Rattle.model.specs.Conflict.{reduceFrom, reduce}
 use Rattle.model.specs.Order.{costThenCode, orderOf}
-use Rattle.model.specs.Listing.{checkOffers, enqueue, enqueueAll, putChildren, learn, judge, expand, remove, step, run, start, enoughSteps, listing}
+use Rattle.model.specs.Listing.{checkOffers, putChildren, learn, judge, expand, remove, step, run, start, enoughSteps, listing}
 use Rattle.model.specs.Calls.{refusalNumber, firstGiven, Answered, refused, answered, Buffers, Counts, Run, ran, unfinished, Called, hostGrounds, offersOf, entryWords, buffersAfter, calledOf, runOf, listingWith, listingCall, endingNumber}
 
 -- the settings of a listing: the lengths of the lent buffers in words, the words offered at the store's start, and the numbers
@@ -45,7 +46,7 @@ unfoldable pub call : Settings → Called
 unfolding lent
   number digits bitAt bitsAt then many field edition1 decisionsAllowed readDecision readState readLiteral readClause readFiller readEnd readBody readSheet
   assignmentOf maskFits valuesFit wellFormed holdsAt literalFails clauseFalse anyFalse orElse tryValues explore test reduceFrom reduce costThenCode orderOf
-  checkOffers enqueue enqueueAll putChildren learn judge expand remove step run start enoughSteps listing
+  checkOffers place placeAll putChildren learn judge expand remove step run start enoughSteps listing
   firstGiven hostGrounds offersOf entryWords buffersAfter calledOf runOf listingWith listingCall
 call s = listingCall (s .sheet) (s .k) (lent s) (s .held) (s .limit)
 

@@ -5,7 +5,7 @@ use mathlib.Core.List.{List, [], _∷_, _++_, map}
 use Prim.Native.Nat.{ℕ, zero, suc, _+_, _*_}
 use lib.Dec.{ltb, eqb}
 use lib.ListN.{length, replicate}
-use Rattle.model.specs.Lists.{keep, anyOf, valuesFrom}
+use Rattle.model.specs.Lists.{keep, anyOf, place, placeAll, valuesFrom}
 use Rattle.model.specs.Sheet.{Plant, decisionSizes}
 use Rattle.model.specs.Assignment.{Assignment, wellFormed, assignmentOf, isFull, valueList}
 use Rattle.model.specs.Consistency.{Tested, consistent, inconsistent, test}
@@ -101,14 +101,16 @@ branching (s ∷ ss) (some x ∷ n) = map (λ m. some x ∷ m) (branching ss n)
 -- ---- the queue
 
 module _ (o : Order) where
-  -- a node at its place among nodes in the order of best states
-  unfoldable pub enqueue : Assignment → List Assignment → List Assignment
-  enqueue n [] = n ∷ []
-  enqueue n (m ∷ queue) = elim (o .before (best (o .preferred) n) (best (o .preferred) m)) [ true ↦ n ∷ m ∷ queue | false ↦ m ∷ enqueue n queue ]
+  -- a node's best state comes before another's
+  abbrev pub ahead : Assignment → Assignment → Bool
+  ahead n m = o .before (best (o .preferred) n) (best (o .preferred) m)
 
-  unfoldable pub enqueueAll : List Assignment → List Assignment → List Assignment
-  enqueueAll [] queue = queue
-  enqueueAll (n ∷ ns) queue = enqueue n (enqueueAll ns queue)
+  -- nodes are put into the queue, each at its place in the order of best states
+  abbrev pub enqueue : Assignment → List Assignment → List Assignment
+  enqueue n queue = place ahead n queue
+
+  abbrev pub enqueueAll : List Assignment → List Assignment → List Assignment
+  enqueueAll ns queue = placeAll ahead ns queue
 
 -- the nodes that manifest none of these conflicts
 abbrev pub leaveOff : List Assignment → List Assignment → List Assignment

@@ -53,6 +53,17 @@ module _ {A : Type 0} where
   abbrev pub filled : List A → List A → List A
   filled xs buffer = xs ++ drop (length xs) buffer
 
+module _ {A : Type 0} (precedes : A → A → Bool) where
+  -- an element at its place: before the first member that it precedes
+  unfoldable pub place : A → List A → List A
+  place x [] = x ∷ []
+  place x (y ∷ ys) = elim (precedes x y) [ true ↦ x ∷ y ∷ ys | false ↦ y ∷ place x ys ]
+
+  -- elements of a list, each at its place in another
+  unfoldable pub placeAll : List A → List A → List A
+  placeAll [] ys = ys
+  placeAll (x ∷ xs) ys = place x (placeAll xs ys)
+
 -- the n numbers from x on
 abbrev pub valuesFrom : ℕ → ℕ → List ℕ
 valuesFrom x zero = []

@@ -6,7 +6,7 @@ use mathlib.Core.List.{List, [], _∷_, _++_, map}
 use Prim.Native.Nat.{ℕ, zero, suc, _+_, _*_}
 use lib.Dec.{ltb, eqb, T}
 use lib.ListN.{length, getD}
-use Rattle.model.specs.Lists.{keep, anyOf, valuesFrom}
+use Rattle.model.specs.Lists.{keep, anyOf, placeAll, valuesFrom}
 use Rattle.model.specs.Sheet.{Plant, decisionSizes, sizes}
 use Rattle.model.specs.Assignment.{Assignment, code, full}
 use Rattle.model.specs.Consistency.{allHold, overAll}
@@ -95,19 +95,9 @@ agrees (x ∷ f) (o ∷ a) = takes x o && agrees f a
 unfoldable pub isConsistent : Plant → Assignment → Bool
 isConsistent p a = anyOf (λ f. agrees f (overAll p a) && allHold f (p .clauses)) (every (sizes p))
 
-module _ (before : List ℕ → List ℕ → Bool) where
-  -- f at its place in an ascending list
-  unfoldable pub insert : List ℕ → List (List ℕ) → List (List ℕ)
-  insert f [] = f ∷ []
-  insert f (g ∷ gs) = elim (before f g) [ true ↦ f ∷ g ∷ gs | false ↦ g ∷ insert f gs ]
-
-  unfoldable pub sorted : List (List ℕ) → List (List ℕ)
-  sorted [] = []
-  sorted (f ∷ fs) = insert f (sorted fs)
-
 -- all full consistent assignments, each once, in the order
 unfoldable pub leadingStates : Plant → Order → List (List ℕ)
-leadingStates p o = sorted (o .before) (keep (λ f. isConsistent p (full f)) (every (decisionSizes p)))
+leadingStates p o = placeAll (o .before) (keep (λ f. isConsistent p (full f)) (every (decisionSizes p))) []
 
 -- an entry of a list: a code with its cost
 pub record Entry : Type 0 where

@@ -37,14 +37,3 @@ rooms ss = sumOf (room ss)
 -- the queue is in the order of best states
 abbrev pub Ordered : Order → List Assignment → Type 0
 Ordered o = Pairs (λ m n. Before o (best (o .preferred) m) (best (o .preferred) n))
-
-module _ {A : Type 0} where
-  -- `put` sets an element before the first one that the test says it precedes
-  pub record Placing (test : A → A → Bool) (put : A → List A → List A) : Type 0 where
-    pub alone : (x : A) → put x [] ≡ x ∷ []
-    pub among : (x y : A) (ys : List A) → put x (y ∷ ys) ≡ elim (test x y) [ true ↦ x ∷ y ∷ ys | false ↦ y ∷ put x ys ]
-
-  -- `all` puts the elements of a list one after another, the last one first, into the list `start`
-  pub record PlacingAll (put : A → List A → List A) (start : List A) (all : List A → List A) : Type 0 where
-    pub nothing : all [] ≡ start
-    pub further : (x : A) (xs : List A) → all (x ∷ xs) ≡ put x (all xs)
