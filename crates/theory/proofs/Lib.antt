@@ -26,5 +26,7 @@ pub mod TestTrials
 pub mod Whole
 pub mod Words
 pub mod WordsCost
+pub mod WordsDigits
 pub mod WordsParallel
 pub mod WordsSet
+pub mod WordsWide

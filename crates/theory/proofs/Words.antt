@@ -15,7 +15,7 @@ use lib.Seq.{getD-take, drop-at}
 use borrow.Author.Tests.{ne-eqb, eqb-true, ltb-true, lt-ltb}
 use Rattle.model.specs.Lists.{All}
 use Rattle.model.specs.Digits.{number, digits}
-use Rattle.model.specs.Assignment.{Assignment, Under, Valid, bit, nibble, maskOf, valuesOf, optional, optionals, assignmentOf, allZero, nibblesFit, maskFits, valuesFit, wellFormed, isSome, isFull}
+use Rattle.model.specs.Assignment.{Assignment, Under, Valid, bit, nibble, maskOf, valuesOf, optional, optionals, assignmentOf, allZero, nibblesFit, maskFits, valuesFit, wellFormed, isFull}
 use Rattle.theory.specs.Digits.{Below}
 use Rattle.theory.specs.Words.{Words}
 use Rattle.theory.proofs.Digits.{digits-length, digits-below, number-below, digits-number, number-take, zero-from, number-zeros}
@@ -130,10 +130,12 @@ words-empty d l = record {
   values-is = sym (ap (number 16 16) (map-none nibble d refl) ∙ number-zeros 16 16 d);
 }
   where
+    -- none is below 16
     small-none : (d : ℕ) → All (Under 16) (replicate d none)
     small-none zero = tt
     small-none (suc d) = (tt, small-none d)
 
+    -- none is zero in both words
     map-none : (f : Option ℕ → ℕ) (d : ℕ) → f none ≡ 0 → map f (replicate d none) ≡ replicate d 0
     map-none f zero e = refl
     map-none f (suc d) e = ap₂ (λ (x : ℕ) (r : List ℕ). x ∷ r) e (map-none f d e)

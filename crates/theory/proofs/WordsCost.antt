@@ -1,9 +1,9 @@
 -- The cost of a full assignment from its code and a table with sixteen costs for each variable. Assumes nothing.
-use mathlib.Core.Path.{_≡_, refl, sym, ap, ap₂, _∙_}
+use mathlib.Core.Path.{_≡_, refl, ap, ap₂, _∙_}
 use mathlib.Core.List.{List, [], _∷_, _++_, map}
-use Prim.Native.Nat.{ℕ, zero, suc, _+_, _-_, _*_, _≤_, _<_}
+use Prim.Native.Nat.{ℕ, suc, _+_, _-_, _≤_}
 use native.Mathlib.Omega.{arith}
-use lib.ListN.{length, getD, take, drop, replicate, length-map, List·getD-append}
+use lib.ListN.{length, getD, drop, replicate, length-map, List·getD-append}
 use Rattle.model.specs.Lists.{All}
 use Rattle.model.specs.Digits.{digits}
 use Rattle.model.specs.Assignment.{Fits, code}

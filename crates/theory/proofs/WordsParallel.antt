@@ -6,20 +6,20 @@ use mathlib.Core.List.{List, [], _∷_, _++_, map, map-append, map-map}
 use Prim.Native.Nat.{ℕ, zero, suc, _+_, _-_, _*_, _^_, _≤_, _<_}
 use native.Mathlib.Omega.{arith}
 use native.Mathlib.Nat.{mod-eq-of-lt}
-use lib.Bits.{bitAnd, bitOr, bitXor, and-block, or-block, xor-block, and-lt, or-lt, xor-lt, and-zero-r, or-zero-l, or-zero-r, xor-zero-r, xor-self, and-mask, and-le-l, and-le-r, xor-add-and}
+use lib.Bits.{bitAnd, bitOr, bitXor, and-lt, xor-lt, and-zero-r, or-zero-l, or-zero-r, xor-zero-r, xor-self, and-mask, and-le-l, and-le-r, xor-add-and}
 use lib.Dec.{eqb}
 use lib.ListN.{length, replicate, length-map}
 use borrow.Author.Tests.{eq-eqb, ne-eqb, eqb-true, eqb-false}
 use Rattle.model.specs.Lists.{All}
-use Rattle.model.specs.Digits.{number, digits}
+use Rattle.model.specs.Digits.{number}
 use Rattle.model.specs.Assignment.{Assignment, Under, bit, nibble, allZero, code}
 use Rattle.model.specs.Conflict.{contains, manifests, differs, resolves}
 use Rattle.model.specs.Order.{valueOr, best}
 use Rattle.theory.specs.Digits.{Below}
-use Rattle.theory.specs.Words.{Words, fifteen, wideOf}
+use Rattle.theory.specs.Words.{Wide, fifteen, wideOf}
 use Rattle.theory.proofs.Digits.{number-below, number-zeros, digits-number, zero-from}
 use Rattle.theory.proofs.Words.{nibbles-below, mask-digits}
-use Rattle.theory.proofs.WordsSet.{pow-four}
+use Rattle.theory.proofs.WordsDigits.{ByBlocks, and-blocks, or-blocks, xor-blocks, each, each-length, each-below, each-number}
 
 -- ---- an operation on words of nibbles
 
@@ -29,58 +29,26 @@ record Nibbles (d n : ℕ) (ds : List ℕ) : Type 0 where
   below : Below 16 ds
   long : length ds ≡ d
 
-module _ (op : ℕ → ℕ → ℕ) where
-  -- an operation on the elements of two lists in turn
-  abbrev each : List ℕ → List ℕ → List ℕ
-  each [] ys = []
-  each (x ∷ xs) [] = []
-  each (x ∷ xs) (y ∷ ys) = op x y ∷ each xs ys
-
-  -- it gives as many
-  each-length : (xs ys : List ℕ) → length xs ≡ length ys → length (each xs ys) ≡ length xs
-  each-length [] ys e = refl
-  each-length (x ∷ xs) [] e = absurd (omega arith)
-  each-length (x ∷ xs) (y ∷ ys) e = ap suc (each-length xs ys (omega arith))
-
-  module _ (low : (k x y : ℕ) → x < 2 ^ k → y < 2 ^ k → op x y < 2 ^ k)
-      (block : (k a b r s : ℕ) → r < 2 ^ k → s < 2 ^ k → op (a * 2 ^ k + r) (b * 2 ^ k + s) ≡ op a b * 2 ^ k + op r s) where
-    -- of digits of base 16 it makes digits of base 16
-    each-below : (xs ys : List ℕ) → Below 16 xs → Below 16 ys → Below 16 (each xs ys)
-    each-below [] ys l m = tt
-    each-below (x ∷ xs) [] l m = tt
-    each-below (x ∷ xs) (y ∷ ys) l m = (low 4 x y (l .0) (m .0), each-below xs ys (l .1) (m .1))
-
-    -- on two numbers that go by blocks of four bits it goes by those blocks
-    each-number : (k : ℕ) (xs ys : List ℕ) → op 0 0 ≡ 0 → Below 16 xs → Below 16 ys → length xs ≡ length ys → op (number 16 k xs) (number 16 k ys) ≡ number 16 k (each xs ys)
-    unfolding number
-    each-number zero xs ys z l m e = z
-    each-number (suc k) [] [] z l m e = z
-    each-number (suc k) [] (y ∷ ys) z l m e = absurd (omega arith)
-    each-number (suc k) (x ∷ xs) [] z l m e = absurd (omega arith)
-    each-number (suc k) (x ∷ xs) (y ∷ ys) z l m e =
-        rw (← each-number k xs ys z (l .1) (m .1) (omega arith), ← pow-four k)
-        (block (4 * k) x y (number 16 k xs) (number 16 k ys) (rw (pow-four k) (number-below 16 k xs (omega arith) (l .1))) (rw (pow-four k) (number-below 16 k ys (omega arith) (m .1))))
-
-    -- the same of words
-    each-nibbles : {d m n : ℕ} {xs ys : List ℕ} → op 0 0 ≡ 0 → Nibbles d m xs → Nibbles d n ys → Nibbles d (op m n) (each xs ys)
-    each-nibbles {xs = xs} {ys = ys} z p q = record {
-      is = rw (p .is, q .is) (each-number 16 xs ys z (p .below) (q .below) (omega (arith, p .long, q .long)));
-      below = each-below xs ys (p .below) (q .below);
-      long = each-length xs ys (omega (arith, p .long, q .long)) ∙ p .long;
-    }
+-- an operation that goes by blocks of bits gives a word of as many nibbles
+each-nibbles : (op : ℕ → ℕ → ℕ) → ByBlocks op → {d m n : ℕ} {xs ys : List ℕ} → Nibbles d m xs → Nibbles d n ys → Nibbles d (op m n) (each op xs ys)
+each-nibbles op o {xs = xs} {ys = ys} p q = record {
+  is = rw (p .is, q .is) (each-number op o 4 16 xs ys (p .below) (q .below) (omega (arith, p .long, q .long)));
+  below = each-below op o 4 xs ys (p .below) (q .below);
+  long = each-length op xs ys (omega (arith, p .long, q .long)) ∙ p .long;
+}
 
 module _ {d m n : ℕ} {xs ys : List ℕ} (p : Nibbles d m xs) (q : Nibbles d n ys) where
   -- of the conjunction
   and-nibbles : Nibbles d (bitAnd m n) (each bitAnd xs ys)
-  and-nibbles = each-nibbles bitAnd and-lt and-block refl p q
+  and-nibbles = each-nibbles bitAnd and-blocks p q
 
   -- of the disjunction
   or-nibbles : Nibbles d (bitOr m n) (each bitOr xs ys)
-  or-nibbles = each-nibbles bitOr or-lt or-block refl p q
+  or-nibbles = each-nibbles bitOr or-blocks p q
 
   -- of the exclusive disjunction
   xor-nibbles : Nibbles d (bitXor m n) (each bitXor xs ys)
-  xor-nibbles = each-nibbles bitXor xor-lt xor-block refl p q
+  xor-nibbles = each-nibbles bitXor xor-blocks p q
 
 -- zeros that follow do not matter
 zero-more : (ds : List ℕ) (n : ℕ) → allZero (ds ++ replicate n 0) ≡ allZero ds
@@ -120,17 +88,23 @@ spreads-below [] = tt
 spreads-below (none ∷ a) = (omega arith, spreads-below a)
 spreads-below (some x ∷ a) = (omega arith, spreads-below a)
 
-module _ (a : Assignment) (mask values : ℕ) (w : Words a mask values) where
+module _ (a : Assignment) (wide values : ℕ) (w : Wide a wide values) where
   -- the nibbles of the values
   values-nibbles : Nibbles (length a) values (map nibble a)
-  values-nibbles = record { is = w .values-is; below = nibbles-below a (w .small); long = length-map a nibble }
+  values-nibbles = record { is = w .words .values-is; below = nibbles-below a (w .words .small); long = length-map a nibble }
 
   -- the nibbles of the widened mask
-  wide-nibbles : Nibbles (length a) (wideOf mask) (map spread a)
+  wide-nibbles : Nibbles (length a) wide (map spread a)
   unfolding wideOf
   wide-nibbles = record {
-    is = rw (w .mask-is, mask-digits a (omega (arith, w .short)), map-append fifteen (map bit a) (replicate (64 - length a) 0), fifteen-zeros (64 - length a), map-map fifteen bit a)
-        (number-more 16 16 (map spread a) (64 - length a));
+    is = rw (
+      w .wide-is,
+      w .words .mask-is,
+      mask-digits a (omega (arith, w .words .short)),
+      map-append fifteen (map bit a) (replicate (64 - length a) 0),
+      fifteen-zeros (64 - length a),
+      map-map fifteen bit a,
+    ) (number-more 16 16 (map spread a) (64 - length a));
     below = spreads-below a;
     long = length-map a spread;
   }
@@ -213,30 +187,30 @@ best-all (x ∷ preferred) (o ∷ a) e l = ap₂ (λ (y : ℕ) (r : List ℕ). y
 
 -- ---- the words
 
-module _ (n c : Assignment) (nm nv cm cv : ℕ) (p : Words n nm nv) (q : Words c cm cv) (e : length n ≡ length c) where
+module _ (n c : Assignment) (wn vn wc vc : ℕ) (p : Wide n wn vn) (q : Wide c wc vc) (e : length n ≡ length c) where
   -- the nibbles of the conflict's widened mask
-  conflict-wide : Nibbles (length n) (wideOf cm) (map spread c)
-  conflict-wide = rw (← e) at (wide-nibbles c cm cv q)
+  conflict-wide : Nibbles (length n) wc (map spread c)
+  conflict-wide = rw (← e) at (wide-nibbles c wc vc q)
 
   -- the nibbles in which the values differ
-  difference : Nibbles (length n) (bitXor nv cv) (each bitXor (map nibble n) (map nibble c))
-  difference = xor-nibbles (values-nibbles n nm nv p) (rw (← e) at (values-nibbles c cm cv q))
+  difference : Nibbles (length n) (bitXor vn vc) (each bitXor (map nibble n) (map nibble c))
+  difference = xor-nibbles (values-nibbles n wn vn p) (rw (← e) at (values-nibbles c wc vc q))
 
   -- a word that is zero exactly where the node manifests the conflict
-  pub manifests-word : eqb (bitOr (bitXor (bitAnd (wideOf nm) (wideOf cm)) (wideOf cm)) (bitAnd (bitXor nv cv) (wideOf cm))) 0 ≡ manifests n c
+  pub manifests-word : eqb (bitOr (bitXor (bitAnd wn wc) wc) (bitAnd (bitXor vn vc) wc)) 0 ≡ manifests n c
   manifests-word =
-      nibbles-zero (or-nibbles (xor-nibbles (and-nibbles (wide-nibbles n nm nv p) conflict-wide) conflict-wide) (and-nibbles difference conflict-wide)) (p .short)
-      ∙ missing-all n c e (p .small) (q .small)
+      nibbles-zero (or-nibbles (xor-nibbles (and-nibbles (wide-nibbles n wn vn p) conflict-wide) conflict-wide) (and-nibbles difference conflict-wide)) (p .words .short)
+      ∙ missing-all n c e (p .words .small) (q .words .small)
 
   -- a word that is zero exactly where the node does not resolve the conflict
-  pub resolves-word : not (eqb (bitAnd (bitAnd (bitXor nv cv) (wideOf nm)) (wideOf cm)) 0) ≡ resolves n c
+  pub resolves-word : not (eqb (bitAnd (bitAnd (bitXor vn vc) wn) wc) 0) ≡ resolves n c
   resolves-word =
-      ap not (nibbles-zero (and-nibbles (and-nibbles difference (wide-nibbles n nm nv p)) conflict-wide) (p .short))
-      ∙ differing-all n c e (p .small) (q .small)
+      ap not (nibbles-zero (and-nibbles (and-nibbles difference (wide-nibbles n wn vn p)) conflict-wide) (p .words .short))
+      ∙ differing-all n c e (p .words .small) (q .words .small)
 
 -- the word of a best state, from the values and the widened mask of a node and the code of the preferred values
-pub best-word : (preferred : List ℕ) (a : Assignment) (mask values : ℕ) → Words a mask values → length preferred ≡ length a → Below 16 preferred
-    → bitOr values (bitXor (code preferred) (bitAnd (code preferred) (wideOf mask))) ≡ code (best preferred a)
-best-word preferred a mask values w e l =
+pub best-word : (preferred : List ℕ) (a : Assignment) (wide values : ℕ) → Wide a wide values → length preferred ≡ length a → Below 16 preferred
+    → bitOr values (bitXor (code preferred) (bitAnd (code preferred) wide)) ≡ code (best preferred a)
+best-word preferred a wide values w e l =
     let c : Nibbles (length a) (code preferred) preferred = record { is = refl; below = l; long = e } in
-    or-nibbles (values-nibbles a mask values w) (xor-nibbles c (and-nibbles c (wide-nibbles a mask values w))) .is ∙ ap (number 16 16) (best-all preferred a e l)
+    or-nibbles (values-nibbles a wide values w) (xor-nibbles c (and-nibbles c (wide-nibbles a wide values w))) .is ∙ ap (number 16 16) (best-all preferred a e l)

@@ -1,10 +1,10 @@
 -- Fields of a word read, set and cleared by shifts and bit operations, and the words of an assignment after a variable is set or removed. Assumes nothing.
 use mathlib.Core.Path.{_≡_, refl, sym, ap, ap₂, _∙_}
 use mathlib.Core.Option.{Option, none, some}
-use mathlib.Core.List.{List, [], _∷_, _++_, map}
+use mathlib.Core.List.{List, [], _∷_, map}
 use Prim.Native.Nat.{ℕ, zero, suc, _+_, _-_, _*_, _/_, _%_, _^_, _≤_, _<_}
 use native.Mathlib.Omega.{arith}
-use native.Mathlib.Nat.{mod-lt, add-zero, zero-mul, zero-add, pow-suc, mul-suc, suc-mul, mul-div-cancel, mul-mod-left}
+use native.Mathlib.Nat.{mod-lt, add-zero, zero-mul, zero-add, suc-mul, mul-div-cancel, mul-mod-left}
 use lib.Arith.{mod-mul}
 use lib.Bits.{bitAnd, bitOr, bitXor, and-block, and-zero-r, and-self, and-mask, or-disjoint, xor-add-and}
 use lib.Dec.{eqb}
@@ -16,12 +16,8 @@ use Rattle.model.specs.Digits.{digits}
 use Rattle.model.specs.Assignment.{Assignment, Under, bit, nibble, maskOf, valuesOf, allZero}
 use Rattle.theory.specs.Words.{Words}
 use Rattle.theory.proofs.Digits.{digit-at, digits-below, below-at, zero-from, number-set}
+use Rattle.theory.proofs.WordsDigits.{pow-pow}
 use Rattle.theory.proofs.Words.{mask-digits, values-digits}
-
--- a power of 16 is a power of two with four times the exponent
-pub pow-four : (j : ℕ) → 2 ^ (4 * j) ≡ 16 ^ j
-pow-four zero = refl
-pow-four (suc j) = rw (mul-suc 4 j, pow-add 2 (4 * j) 4, pow-suc 16 j, pow-four j)
 
 -- ---- fields of a word
 
@@ -66,7 +62,7 @@ shifted-zero n t s w e =
 
 -- the place of a variable's nibble
 pub nibble-place : (v : ℕ) → v < 16 → 2 ^ (60 - 4 * v) ≡ 16 ^ (15 - v)
-nibble-place v h = let e : 60 - 4 * v ≡ 4 * (15 - v) = omega arith in rw e (pow-four (15 - v))
+nibble-place v h = let e : 60 - 4 * v ≡ 4 * (15 - v) = omega arith in rw e (sym (pow-pow 4 (15 - v)))
 
 -- a bit of the mask, by a shift and a conjunction
 pub bit-read : (mask v : ℕ) → v < 16 → bitAnd (mask / 2 ^ (63 - v)) 1 ≡ getD (digits 2 64 mask) v 0
@@ -92,7 +88,7 @@ mask-beyond mask d h = shifted-zero mask (64 - d) d 64 (omega arith) ∙ sym (ze
 pub values-beyond : (values d : ℕ) → d ≤ 16 → eqb (values * 2 ^ (4 * d) % 2 ^ 64) 0 ≡ allZero (drop d (digits 16 16 values))
 values-beyond values d h =
     shifted-zero values (4 * (16 - d)) (4 * d) 64 (omega arith)
-    ∙ rw (pow-four (16 - d)) (sym (zero-from 16 16 d values (omega arith) h))
+    ∙ rw (← pow-pow 4 (16 - d)) (sym (zero-from 16 16 d values (omega arith) h))
 
 -- ---- one variable set
 

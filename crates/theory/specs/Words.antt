@@ -22,11 +22,17 @@ byte (some x) = x
 
 -- fifteen for a bit that is set, zero for one that is not
 abbrev pub fifteen : ℕ → ℕ
-fifteen b = 15 * b
+fifteen b = b * 15
 
 -- a mask's first sixteen bits widened: fifteen at the nibble of each assigned variable
 unfoldable pub wideOf : ℕ → ℕ
 wideOf mask = number 16 16 (map fifteen (digits 2 64 mask))
+
+-- a widened mask and values are those of an assignment
+pub record Wide (a : Assignment) (wide values : ℕ) : Type 0 where
+  pub mask : ℕ
+  pub words : Words a mask values
+  pub wide-is : wide ≡ wideOf mask
 
 -- the rows of d variables in a table with sixteen costs for each
 abbrev pub rows : ℕ → List ℕ → List (List ℕ)

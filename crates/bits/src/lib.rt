@@ -1,0 +1,45 @@
+// Bit fields of a lent sheet: the unsigned number that stands at a bit place, most significant bit first, or the word that
+// it runs past the end. A field of at most 16 bits is taken from the three bytes around its place.
+ghost use mathlib.Core.Path.{_≡_};
+ghost use Prim.Native.Nat.{_+_, _≤_, _<_};
+ghost use lib.ListN.{getD};
+ghost use Rattle.model.specs.Digits.{number};
+ghost use Rattle.model.specs.Sheet.{bitsAt, field};
+ghost use Rattle.bits.specs.Field.{fieldOf};
+
+// What stands at a place: a number, or nothing because the field runs past the end.
+pub enum Field {
+    Value(u32),
+    Past,
+}
+
+// A byte of the sheet, zero past the end.
+fn byte(sheet: &[u8], i: usize) -> u32
+    ensures { λ r. ⌜ (r ≡ getD (now (sheet .entry)) i 0) × (r < 256) ⌝ }
+{
+    if i < sheet.len() { sheet[i] as u32 } else { 0 }
+}
+
+// The w bits from a place on as a number, with zeros past the end.
+pub fn value(sheet: &[u8], place: usize, w: usize) -> u32
+    requires { ⌜ w ≤ 16 ⌝ }
+    ensures { λ r. ⌜ r ≡ number 2 w (bitsAt (now (sheet .entry)) w place) ⌝ }
+{
+    let i = place / 8;
+    let word = byte(sheet, i) * 65536 + byte(sheet, i + 1) * 256 + byte(sheet, i + 2);
+    let after = 24 - place % 8 - w;
+    (word >> after) % (1 << w)
+}
+
+// The field of w bits at a place, or that it runs past the end.
+pub fn field_at(sheet: &[u8], place: usize, w: usize) -> Field
+    requires { ⌜ w ≤ 16 ⌝ }
+    ensures { λ r. ⌜ fieldOf (place + w) r ≡ field (now (sheet .entry)) w place ⌝ }
+{
+    let last = place / 8 + (place % 8 + w + 7) / 8;
+    if last <= sheet.len() {
+        Field::Value(value(sheet, place, w))
+    } else {
+        Field::Past
+    }
+}

@@ -1,0 +1,210 @@
+// Assignments to at most sixteen decision variables as document 01 has them: two words, a mask with variable 0 as its top
+// bit, and values with variable 0 as their top four bits. Here they are read, changed, checked for being well formed and
+// compared, the last for all variables at once. `Words` says that two words are those of an assignment, `Wide` the same of
+// a widened mask and values; for such words each answer is an equation with the model. Nothing relies on there being a
+// variable.
+ghost use mathlib.Core.Path.{_≡_};
+ghost use mathlib.Core.List.{List};
+ghost use mathlib.Core.Option.{none, some};
+ghost use Prim.Native.Nat.{ℕ, _*_, _<_, _≤_};
+ghost use lib.ListN.{length, getD, take, drop, set};
+ghost use lib.Dec.{eqb};
+ghost use Rattle.model.specs.Digits.{digits};
+ghost use Rattle.model.specs.Assignment.{Assignment, assignmentOf, isSome, isFull, allZero, nibbleFits, maskFits, valuesFit, wellFormed, code};
+ghost use Rattle.model.specs.Conflict.{manifests, resolves};
+ghost use Rattle.model.specs.Order.{best, cost};
+ghost use Rattle.theory.specs.Digits.{Below};
+ghost use Rattle.theory.specs.Words.{Words, byte, wideOf, Wide, rows};
+
+// The two words of an assignment.
+pub struct Pair {
+    pub mask: u64,
+    pub values: u64,
+}
+
+// A variable's bit of the mask.
+fn bit_at(mask: u64, v: usize) -> u64
+    requires { ⌜ v < 16 ⌝ }
+    ensures { λ r. ⌜ (r ≡ getD (digits 2 64 mask) v 0) × (r < 2) ⌝ }
+{
+    (mask >> (63 - v)) & 1
+}
+
+// A variable's four bits of the values.
+fn nibble_at(values: u64, v: usize) -> u64
+    requires { ⌜ v < 16 ⌝ }
+    ensures { λ r. ⌜ (r ≡ getD (digits 16 16 values) v 0) × (r < 16) ⌝ }
+{
+    (values >> (60 - 4 * v)) & 15
+}
+
+// Whether a variable is assigned.
+pub fn is_assigned(mask: u64, v: usize) -> bool
+    requires { ⌜ v < 16 ⌝ }
+    ensures { λ r. ⌜ ((d values : ℕ) → d ≤ 16 → v < d → r ≡ isSome (getD (assignmentOf d mask values) v none)) ⌝ }
+{
+    bit_at(mask, v) == 1
+}
+
+// A variable's value, or 16 where it is unassigned.
+pub fn value(mask: u64, values: u64, v: usize) -> u8
+    requires { ⌜ v < 16 ⌝ }
+    ensures { λ r. ⌜ ((d : ℕ) → d ≤ 16 → v < d → r ≡ byte (getD (assignmentOf d mask values) v none)) ⌝ }
+{
+    if bit_at(mask, v) == 0 {
+        return 16;
+    }
+    nibble_at(values, v) as u8
+}
+
+// Whether all d variables are assigned: the mask has d ones.
+pub fn is_full(mask: u64, d: usize) -> bool
+    ensures { λ r. ⌜ ((a : Assignment) (values : ℕ) → Words a mask values → length a ≡ d → r ≡ isFull a) ⌝ }
+{
+    u64::count_ones(mask) as usize == d
+}
+
+// Gives an unassigned variable a value.
+pub fn assign(mask: u64, values: u64, v: usize, x: u64) -> Pair
+    requires { ⌜ (v < 16) × (x < 16) ⌝ }
+    ensures { λ r. ⌜ ((a : Assignment) → Words a mask values → v < length a → getD a v none ≡ none → Words (set a v (some x)) (r .mask) (r .values)) ⌝ }
+{
+    Pair {
+        mask: mask | (1 << (63 - v)),
+        values: values | (x << (60 - 4 * v)),
+    }
+}
+
+// Takes a variable's value away, if it has one.
+pub fn remove(mask: u64, values: u64, v: usize) -> Pair
+    requires { ⌜ v < 16 ⌝ }
+    ensures { λ r. ⌜ ((a : Assignment) → Words a mask values → v < length a → Words (set a v none) (r .mask) (r .values)) ⌝ }
+{
+    Pair {
+        mask: mask ^ (bit_at(mask, v) << (63 - v)),
+        values: values ^ (nibble_at(values, v) << (60 - 4 * v)),
+    }
+}
+
+// Gives a variable a value, whether it had one or not.
+pub fn reassign(mask: u64, values: u64, v: usize, x: u64) -> Pair
+    requires { ⌜ (v < 16) × (x < 16) ⌝ }
+    ensures { λ r. ⌜ ((a : Assignment) → Words a mask values → v < length a → Words (set a v (some x)) (r .mask) (r .values)) ⌝ }
+{
+    let free = remove(mask, values, v);
+    assign(free.mask, free.values, v, x)
+}
+
+// Whether no bit of the mask is set beyond the first d variables; where one is, that is refusal 14.
+pub fn mask_fits(mask: u64, d: usize) -> bool
+    requires { ⌜ d ≤ 16 ⌝ }
+    ensures { λ r. ⌜ ((domains : List ℕ) → length domains ≡ d → r ≡ maskFits domains mask) ⌝ }
+{
+    mask << d == 0
+}
+
+// Whether a variable's bit and nibble are right for a domain of this size.
+fn nibble_fits(size: u8, bit: u64, x: u64) -> bool
+    ensures { λ r. ⌜ r ≡ nibbleFits size bit x ⌝ }
+{
+    if bit == 0 {
+        return x == 0;
+    }
+    x < size as u64
+}
+
+// What is left of the values after their first d nibbles: zero exactly when each nibble left is.
+fn after(values: u64, d: usize) -> u64
+    requires { ⌜ d ≤ 16 ⌝ }
+    ensures { λ r. ⌜ eqb r 0 ≡ allZero (drop d (digits 16 16 values)) ⌝ }
+{
+    if d == 16 {
+        return 0;
+    }
+    values << (4 * d)
+}
+
+// Whether each of the first d variables has a value in its domain or a zero nibble, and the nibbles after them are zero; where not, that is refusal 15.
+pub fn values_fit(mask: u64, values: u64, sizes: &[u8], d: usize) -> bool
+    requires { ⌜ (d ≤ 16) × (d ≤ length (now sizes)) ⌝ }
+    ensures { λ r. ⌜ r ≡ valuesFit (take d (now (sizes .entry))) mask values ⌝ }
+{
+    let mut fit = true;
+    let mut v = 0;
+    while v < d {
+        fit = fit & nibble_fits(sizes[v], bit_at(mask, v), nibble_at(values, v));
+        v += 1;
+    }
+    fit & (after(values, d) == 0)
+}
+
+// Whether two words are well formed over the first d of these sizes: those of an assignment within the domains.
+pub fn well_formed(mask: u64, values: u64, sizes: &[u8], d: usize) -> bool
+    requires { ⌜ (d ≤ 16) × (d ≤ length (now sizes)) ⌝ }
+    ensures { λ r. ⌜ r ≡ wellFormed (take d (now (sizes .entry))) mask values ⌝ }
+{
+    mask_fits(mask, d) & values_fit(mask, values, sizes, d)
+}
+
+// The mask widened: fifteen at the nibble of each assigned variable. Its bits are moved apart, half of each group at a time.
+pub fn widened(mask: u64) -> u64
+    ensures { λ r. ⌜ r ≡ wideOf mask ⌝ }
+{
+    let whole = mask >> 48;
+    let eights = (whole | (whole << 24)) & 0x0000_00ff_0000_00ff;
+    let fours = (eights | (eights << 12)) & 0x000f_000f_000f_000f;
+    let twos = (fours | (fours << 6)) & 0x0303_0303_0303_0303;
+    let bits = (twos | (twos << 3)) & 0x1111_1111_1111_1111;
+    bits * 15
+}
+
+// Whether a node contains a conflict, from the values and the widened mask of both.
+pub fn manifests(values: u64, wide: u64, conflict_values: u64, conflict_wide: u64) -> bool
+    ensures { λ r. ⌜ ((n c : Assignment) → Wide n wide values → Wide c «conflict_wide» «conflict_values» → length n ≡ length c → r ≡ manifests n c) ⌝ }
+{
+    ((wide & conflict_wide) ^ conflict_wide) | ((values ^ conflict_values) & conflict_wide) == 0
+}
+
+// Whether a node gives a member of a conflict another value, from the values and the widened mask of both.
+pub fn resolves(values: u64, wide: u64, conflict_values: u64, conflict_wide: u64) -> bool
+    ensures { λ r. ⌜ ((n c : Assignment) → Wide n wide values → Wide c «conflict_wide» «conflict_values» → length n ≡ length c → r ≡ resolves n c) ⌝ }
+{
+    (values ^ conflict_values) & wide & conflict_wide != 0
+}
+
+// The code of a node's best state, from its values, its widened mask and the code of the preferred values.
+pub fn best_values(values: u64, wide: u64, preferred: u64) -> u64
+    ensures { λ r. ⌜ ((a : Assignment) (ps : List ℕ) → Wide a wide values → preferred ≡ code ps → length ps ≡ length a → Below 16 ps → r ≡ code (best ps a)) ⌝ }
+{
+    values | (preferred ^ (preferred & wide))
+}
+
+// A variable's value in a code, as an index.
+fn digit_at(code: u64, v: usize) -> usize
+    requires { ⌜ v < 16 ⌝ }
+    ensures { λ r. ⌜ (r ≡ getD (digits 16 16 code) v 0) × (r < 16) ⌝ }
+{
+    nibble_at(code, v) as usize
+}
+
+// A table's cost as a number that sums can be made of.
+fn summand(x: u16) -> u32
+    ensures { λ r. ⌜ (r ≡ x) × (r < 65536) ⌝ }
+{
+    x as u32
+}
+
+// The cost of the full assignment to d variables with this code, from a table with sixteen costs for each variable.
+pub fn cost(code: u64, costs: &[u16], d: usize) -> u32
+    requires { ⌜ (d ≤ 16) × (16 * d ≤ length (now costs)) ⌝ }
+    ensures { λ r. ⌜ r ≡ cost (rows d (now (costs .entry))) (digits 16 16 code) ⌝ }
+{
+    let mut sum: u32 = 0;
+    let mut v = 0;
+    while v < d {
+        let x = digit_at(code, v);
+        sum += summand(costs[16 * v + x]);
+        v += 1;
+    }
+    sum
+}
