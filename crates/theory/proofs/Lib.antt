@@ -19,6 +19,7 @@ pub mod ReductionSteps
 pub mod ReductionTrials
 pub mod Run
 pub mod Sheet
+pub mod Tables
 pub mod Test
 pub mod TestClauses
 pub mod TestSteps

@@ -1,8 +1,10 @@
 -- The plant that decoded tables hold. Assumes nothing: these are definitions.
-use Prim.Native.Nat.{ℕ, _+_, _*_}
-use mathlib.Core.List.{List, [], _∷_}
-use lib.ListN.{take, drop}
-use Rattle.model.specs.Sheet.{Literal, Plant}
+use Prim.Native.Nat.{ℕ, _+_, _*_, _≤_}
+use mathlib.Core.Path.{_≡_}
+use mathlib.Core.List.{List, [], _∷_, map}
+use lib.ListN.{length, take, drop}
+use Rattle.model.specs.Sheet.{Literal, Plant, edition1}
+use Rattle.theory.specs.Plant.{Accepted}
 
 -- the literals that the bytes hold: variable, sign, value, three bytes each
 unfoldable pub literals : List ℕ → List Literal
@@ -33,3 +35,20 @@ plantOf d s c sizes costs counts lits = record {
   states = take s (drop d sizes);
   clauses = clauses (take c counts) lits;
 }
+
+-- the same where the slices are as long as the plant says: a size for each variable, a count for each clause
+abbrev pub plantFrom : (d : ℕ) (sizes costs counts lits : List ℕ) → Plant
+plantFrom d sizes costs counts lits = record {
+  costs = rows (take d sizes) costs;
+  states = drop d sizes;
+  clauses = clauses counts lits;
+}
+
+-- a plant's tables: slices as long as it says, of an accepted sheet or of one with no decision variable
+pub record Tabled (p : Plant) (d : ℕ) (sizes costs counts lits : List ℕ) : Type 0 where
+  pub plant : p ≡ plantFrom d sizes costs counts lits
+  pub accepted : Accepted edition1 p
+  pub decisions : d ≤ length sizes
+  pub lengths : map length (rows (take d sizes) costs) ≡ take d sizes
+  pub cost-room : 16 * d ≤ length costs
+  pub literal-room : 3 * total counts ≤ length lits

@@ -1,0 +1,43 @@
+-- What the tables of a plant say of it. Assumes nothing.
+use mathlib.Core.Path.{_≡_, refl, sym, ap, _∙_}
+use mathlib.Core.List.{List, [], _∷_, _++_, map}
+use Prim.Native.Nat.{ℕ, _+_, _≤_, _<_}
+use native.Mathlib.Omega.{arith}
+use lib.ListN.{length, take, drop, length-map, take-append-drop}
+use lib.Seq.{length-take-le, take-take, take-add, drop-at}
+use Rattle.model.specs.Lists.{All}
+use Rattle.model.specs.Sheet.{Plant, Edition, edition1, decisionSizes, sizes}
+use Rattle.theory.specs.Plant.{Accepted, Sized}
+use Rattle.theory.specs.Tables.{rows, clauses, plantFrom, plantOf, Tabled}
+use Rattle.theory.proofs.Lists.{all-map, all-image}
+
+-- tables with room to spare hold the plant of their first parts
+pub plant-from : (d s c : ℕ) (sizes costs counts lits : List ℕ) → d + s ≤ length sizes → plantOf d s c sizes costs counts lits ≡ plantFrom d (take (d + s) sizes) costs (take c counts) lits
+plant-from d s c sizes costs counts lits h =
+    let a : take d (take (d + s) sizes) ≡ take d sizes = take-take d (d + s) sizes (omega arith) in
+    let b : drop d (take (d + s) sizes) ≡ take s (drop d sizes) = rw (take-add d s sizes) (drop-at (take d sizes) (take s (drop d sizes)) d (length-take-le d sizes (omega arith))) in
+    rw (a, b)
+
+module _ {p : Plant} {d : ℕ} {domains costs counts lits : List ℕ} (t : Tabled p d domains costs counts lits) where
+  -- the decision variables' sizes are the first d
+  pub tabled-decisions : decisionSizes p ≡ take d domains
+  tabled-decisions = ap decisionSizes (t .plant) ∙ t .lengths
+
+  -- there are d decision variables, at most sixteen
+  pub tabled-count : length (p .costs) ≡ d
+  tabled-count = sym (length-map (p .costs) length) ∙ ap length tabled-decisions ∙ length-take-le d domains (t .decisions)
+
+  pub tabled-few : d ≤ 16
+  unfolding edition1
+  tabled-few = omega (arith, tabled-count, t .accepted .decisions)
+
+  -- all sizes are those of the table
+  pub tabled-sizes : sizes p ≡ domains
+  tabled-sizes = ap (λ (ss : List ℕ). ss ++ p .states) tabled-decisions ∙ ap (λ (q : Plant). take d domains ++ q .states) (t .plant) ∙ take-append-drop d domains
+
+  pub tabled-clauses : p .clauses ≡ clauses counts lits
+  tabled-clauses = ap (λ (q : Plant). q .clauses) (t .plant)
+
+  -- each domain has from 1 to 16 values
+  pub tabled-sized : All Sized (decisionSizes p)
+  tabled-sized = all-image length Sized (p .costs) (t .accepted .decision-sizes)
