@@ -8,8 +8,7 @@ use Prim.Native.Nat.{ℕ, zero, suc, _+_, _/_, _≤_, _<_}
 use native.Mathlib.Omega.{arith}
 use borrow.Author.Tests.{ltb-false}
 use lib.Dec.{ltb, T}
-use lib.ListN.{length, getD, take, drop, length-map, List·getD-map, List·getD-append}
-use lib.Seq.{take-at, drop-at}
+use lib.ListN.{length, getD, take, drop, length-map}
 use Rattle.model.specs.Lists.{Some, Mem, All, Pairs, Begins, filled}
 use Rattle.model.specs.Sheet.{Plant, Read, got, Edition, edition1, readSheet, decisionSizes}
 use Rattle.model.specs.Assignment.{Assignment, Fits, code, full}
@@ -24,6 +23,7 @@ use Rattle.theory.specs.Consistency.{VariablesPresent}
 use Rattle.theory.specs.Run.{Good, Done}
 use Rattle.theory.specs.Demand3.{StoreAfter, Demand3, Promised}
 use Rattle.theory.proofs.Lists.{at-member, all-map, all-image}
+use Rattle.theory.proofs.Filled.{filled-take, filled-drop, filled-at}
 use Rattle.theory.proofs.BestFirst.{listed-first, listed-all}
 use Rattle.theory.proofs.BruteForce.{is-consistent}
 use Rattle.theory.proofs.Whole.{leading-sound, leading-complete, leading-ascending}
@@ -59,14 +59,6 @@ begins-map g xs ys b = (map g (b .0), ap (map g) (b .1) ∙ map-append g xs (b .
 
 -- ---- the filled buffers
 
--- a buffer's first places after it was filled, and those after them
-module _ {A : Type 0} (xs buffer : List A) where
-  filled-take : take (length xs) (filled xs buffer) ≡ xs
-  filled-take = take-at xs (drop (length xs) buffer) (length xs) refl
-
-  filled-drop : drop (length xs) (filled xs buffer) ≡ drop (length xs) buffer
-  filled-drop = drop-at xs (drop (length xs) buffer) (length xs) refl
-
 -- the codes and figures of states, place by place
 entries-map : (o : Order) (fs : List (List ℕ)) → entriesOf (map code fs) (map (o .figure) fs) ≡ map (entryOf o) fs
 entries-map o [] = refl
@@ -100,15 +92,6 @@ module _ {A : Type 0} (d : A) where
     earlier f (x ∷ xs) p (inl e) (suc i) h r = (0, omega arith, sym e)
     earlier f (x ∷ xs) p (inr m) zero h r = absurd (irreflexive x (transitive x f x (at-member (R x) xs (p .0) f m) r))
     earlier f (x ∷ xs) p (inr m) (suc i) h r = let t = earlier f xs (p .1) m i (omega arith) r in (suc (t .0), omega (arith, t .1), t .2)
-
--- a place that was filled from a mapped list
-filled-at : {A : Type 0} (g : A → ℕ) (xs : List A) (buffer : List ℕ) (d : A) (i : ℕ) → i < length xs → getD (filled (map g xs) buffer) i 0 ≡ g (getD xs i d)
-filled-at g xs buffer d i h = List·getD-append (map g xs) (drop (length (map g xs)) buffer) 0 i (rw (length-map xs g) h) ∙ mapped xs i h
-  where
-    mapped : (ys : List _) (i : ℕ) → i < length ys → getD (map g ys) i 0 ≡ g (getD ys i d)
-    mapped [] i h = absurd (omega arith)
-    mapped (y ∷ ys) zero h = refl
-    mapped (y ∷ ys) (suc i) h = mapped ys i (omega arith)
 
 -- ---- demand 3 of a finished run
 

@@ -7,6 +7,7 @@ pub mod Demand3
 pub mod Digits
 pub mod Every
 pub mod Fields
+pub mod Filled
 pub mod Impostors
 pub mod Listing
 pub mod Lists
