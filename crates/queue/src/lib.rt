@@ -1,0 +1,197 @@
+// The nodes that a listing has yet to expand: a queue in a slice that the caller lends, two words an entry. The caller
+// keeps n, the number of entries. `Holds` says that the first n entries are those of the model's queue; how they stand (a
+// binary heap) is known only here, and what stands beyond them is not said. An entry carries its key: the cost of the
+// node's best state, with the mask's sixteen top bits below it, and the code of that state. The order of entries enters
+// by `comes_before` and its laws alone.
+ghost use mathlib.Core.Path.{_≡_};
+ghost use mathlib.Core.List.{List, [], _∷_};
+ghost use Prim.Native.Nat.{ℕ, _+_, _-_, _*_, _≤_, _<_};
+ghost use lib.ListN.{length, getD, set, replicate};
+ghost use Rattle.model.specs.Lists.{All};
+ghost use Rattle.model.specs.Assignment.{Assignment, Valid, maskOf, code};
+ghost use Rattle.model.specs.Order.{Order, best};
+ghost use Rattle.model.specs.Listing.{enqueue, leaveOff};
+ghost use Rattle.theory.specs.Nodes.{Ordered};
+ghost use Rattle.theory.specs.Words.{Words};
+ghost use Rattle.queue.specs.Order.{entryOf, comesBefore, Keyed, Suits};
+ghost use Rattle.queue.specs.Entries.{pairs};
+ghost use Rattle.queue.specs.Inside.{HeapFrom, LesserChild, Sifted, Rebuilt, Stays};
+ghost use Rattle.queue.specs.Queue.{Ready, Holds};
+
+// The two words of an entry.
+pub struct Entry {
+    pub a: u64,
+    pub b: u64,
+}
+
+// The entry of a node, from its mask and the code and cost of its best state.
+pub fn entry_of(mask: u64, best_code: u64, cost: u32) -> Entry
+    ensures { λ r. ⌜ ((o : Order) (n : Assignment) → mask ≡ maskOf n → «best_code» ≡ code (best (o .preferred) n) → cost ≡ o .figure (best (o .preferred) n) → (r .a, r .b) ≡ entryOf o n) ⌝ }
+{
+    Entry {
+        a: cost as u64 * 65536 + (mask >> 48),
+        b: best_code,
+    }
+}
+
+// The mask and values of an entry's node.
+pub fn node_of(a: u64, b: u64) -> words::Pair
+    ensures { λ r. ⌜ ((ss : List ℕ) (o : Order) (n : Assignment) → Suits ss o → Valid ss n → (a, b) ≡ entryOf o n → Words n (r .mask) (r .values)) ⌝ }
+{
+    let mask = a << 48;
+    words::Pair {
+        mask: mask,
+        values: b & words::widened(mask),
+    }
+}
+
+// Whether the entry (a, b) comes before the entry (c, d): the queue's order.
+fn comes_before(a: u64, b: u64, c: u64, d: u64) -> bool
+    ensures { λ r. ⌜ r ≡ comesBefore (a, b) (c, d) ⌝ }
+{
+    let x = a / 65536;
+    let y = c / 65536;
+    (x < y) | ((x == y) & (b < d))
+}
+
+// The entry at place i.
+fn entry_at(queue: &[u64], i: usize) -> Entry
+    requires { do ⌜ 2 * i + 1 < (← ⟦queue.len()⟧) ⌝ }
+    ensures { λ r. ⌜ getD (pairs (now (queue .entry))) i (0, 0) ≡ (r .a, r .b) ⌝ }
+{
+    Entry {
+        a: queue[2 * i],
+        b: queue[2 * i + 1],
+    }
+}
+
+// Writes the entry (a, b) to place i.
+fn put(queue: &mut [u64], i: usize, a: u64, b: u64)
+    requires { do ⌜ 2 * i + 1 < (← ⟦queue.len()⟧) ⌝ }
+    ensures { λ _. ⌜ pairs (now (queue .exit)) ≡ set (pairs (now (queue .entry))) i (a, b) ⌝ }
+{
+    queue[2 * i] = a;
+    queue[2 * i + 1] = b;
+}
+
+// The child of place i that is due first: it has one, and may have two.
+fn lesser_child(queue: &[u64], n: usize, i: usize) -> usize
+    requires { do ⌜ 2 * n ≤ (← ⟦queue.len()⟧) ⌝ }
+    requires { ⌜ 2 * i + 1 < n ⌝ }
+    ensures { λ r. ⌜ LesserChild n i (pairs (now (queue .entry))) r ⌝ }
+{
+    let c = 2 * i + 1;
+    if c + 1 < n {
+        let x = entry_at(queue, c);
+        let y = entry_at(queue, c + 1);
+        c + comes_before(y.a, y.b, x.a, x.b) as usize
+    } else {
+        c
+    }
+}
+
+// Puts (a, b) at place `from` or below it, and moves entries up where they are due first, so that all from `from` on is in order.
+fn sift_down(queue: &mut [u64], n: usize, from: usize, a: u64, b: u64)
+    requires { do ⌜ 2 * n ≤ (← ⟦queue.len()⟧) ⌝ }
+    requires { ⌜ from < n ⌝ }
+    requires { ⌜ HeapFrom (from + 1) n (pairs (now queue)) ⌝ }
+    ensures { λ _. ⌜ Sifted n from a b (pairs (now (queue .entry))) (pairs (now (queue .exit))) ⌝ }
+{
+    let mut i = from;
+    while 2 * i + 1 < n {
+        let c = lesser_child(queue, n, i);
+        let e = entry_at(queue, c);
+        if !comes_before(e.a, e.b, a, b) {
+            break;
+        }
+        put(queue, i, e.a, e.b);
+        i = c;
+    }
+    put(queue, i, a, b);
+}
+
+// Puts the node with the entry (a, b) into a queue of n nodes.
+pub fn push(queue: &mut [u64], n: usize, a: u64, b: u64)
+    requires { do ⌜ 2 * n + 2 ≤ (← ⟦queue.len()⟧) ⌝ }
+    requires { ⌜ Ready n (now queue) ⌝ }
+    ensures { λ _. ⌜ ((o : Order) (nodes : List Assignment) (node : Assignment) → Holds o n (now (queue .entry)) nodes → (a, b) ≡ entryOf o node → Holds o (n + 1) (now (queue .exit)) (enqueue o node nodes)) ⌝ }
+{
+    let mut i = n;
+    while 0 < i {
+        let p = (i - 1) / 2;
+        let e = entry_at(queue, p);
+        if !comes_before(a, b, e.a, e.b) {
+            break;
+        }
+        put(queue, i, e.a, e.b);
+        i = p;
+    }
+    put(queue, i, a, b);
+}
+
+// Takes the node whose best state comes first out of a queue of n nodes, and returns its entry.
+pub fn pop(queue: &mut [u64], n: usize) -> Entry
+    requires { do ⌜ 2 * n ≤ (← ⟦queue.len()⟧) ⌝ }
+    requires { ⌜ 0 < n ⌝ }
+    requires { ⌜ Ready n (now queue) ⌝ }
+    ensures { λ r. ⌜ ((o : Order) (node : Assignment) (rest : List Assignment) → Keyed o → Ordered o (node ∷ rest) → Holds o n (now (queue .entry)) (node ∷ rest) → ((r .a, r .b) ≡ entryOf o node) × Holds o (n - 1) (now (queue .exit)) rest) ⌝ }
+{
+    let first = entry_at(queue, 0);
+    if 1 < n {
+        let last = entry_at(queue, n - 1);
+        sift_down(queue, n - 1, 0, last.a, last.b);
+    }
+    first
+}
+
+// Puts any n entries in order, from the last to the first (Floyd's way).
+fn rebuild(queue: &mut [u64], n: usize)
+    requires { do ⌜ 2 * n ≤ (← ⟦queue.len()⟧) ⌝ }
+    ensures { λ _. ⌜ Rebuilt n (pairs (now (queue .entry))) (pairs (now (queue .exit))) ⌝ }
+{
+    let mut i = n / 2;
+    while 0 < i {
+        i -= 1;
+        let e = entry_at(queue, i);
+        sift_down(queue, n, i, e.a, e.b);
+    }
+}
+
+// Whether an entry's node does not manifest a conflict, which is given by its values and its widened mask.
+fn stays(a: u64, b: u64, conflict_values: u64, conflict_wide: u64) -> bool
+    ensures { λ r. ⌜ Stays «conflict_wide» «conflict_values» (a, b) r ⌝ }
+{
+    let n = node_of(a, b);
+    !words::manifests(n.values, words::widened(n.mask), conflict_values, conflict_wide)
+}
+
+// Removes the nodes that manifest the conflict with these words from a queue of n nodes, and returns how many are left.
+pub fn sieve(queue: &mut [u64], n: usize, mask: u64, values: u64) -> usize
+    requires { do ⌜ 2 * n ≤ (← ⟦queue.len()⟧) ⌝ }
+    ensures { λ r. ⌜ (r ≤ n) × ((ss : List ℕ) (o : Order) (nodes : List Assignment) (c : Assignment) → Suits ss o → All (Valid ss) nodes → Words c mask values → length c ≡ length ss → Holds o n (now (queue .entry)) nodes → Holds o r (now (queue .exit)) (leaveOff (c ∷ []) nodes)) ⌝ }
+{
+    let wide = words::widened(mask);
+    let mut count = 0;
+    let mut i = 0;
+    while i < n {
+        let e = entry_at(queue, i);
+        if stays(e.a, e.b, values, wide) {
+            put(queue, count, e.a, e.b);
+            count += 1;
+        }
+        i += 1;
+    }
+    rebuild(queue, count);
+    count
+}
+
+// Sets every word to zero.
+pub fn clear(queue: &mut [u64])
+    ensures { λ _. ⌜ now (queue .exit) ≡ replicate (length (now (queue .entry))) 0 ⌝ }
+{
+    let mut i = 0;
+    while i < queue.len() {
+        queue[i] = 0;
+        i += 1;
+    }
+}

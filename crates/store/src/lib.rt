@@ -1,0 +1,85 @@
+// The conflict store of a listing: conflicts in a slice that the caller lends, two words an entry, the mask first. The
+// caller counts the entries, m. Here the first m are scanned for a node, an entry is appended or read, and what stands
+// behind the entries is zeroed. `Keeps` says that the first m entries are the words of a list of conflicts over d
+// variables; for every such list each answer is an equation with the model.
+ghost use mathlib.Core.Path.{_≡_};
+ghost use mathlib.Core.List.{List};
+ghost use Prim.Native.Nat.{ℕ, _+_, _*_, _≤_};
+ghost use lib.ListN.{length, getD, drop, replicate};
+ghost use Rattle.model.specs.Lists.{filled};
+ghost use Rattle.model.specs.Assignment.{Assignment};
+ghost use Rattle.model.specs.Listing.{stored, manifestsAny, firstUnresolved};
+ghost use Rattle.model.specs.Calls.{entryWords};
+ghost use Rattle.theory.specs.Words.{Words, Wide};
+ghost use Rattle.store.specs.Store.{Keeps, Tells};
+use words::Pair;
+
+// The mask and the values of the first conflict that a node does not resolve, if there is one.
+pub enum Unresolved {
+    At(u64, u64),
+    Nothing,
+}
+
+// The entry at place i.
+pub fn entry_at(store: &[u64], i: usize) -> Pair
+    requires { ⌜ 2 * i + 2 ≤ length (now store) ⌝ }
+    ensures { λ r. ⌜ (r .mask ≡ getD (now (store .entry)) (2 * i) 0) × (r .values ≡ getD (now (store .entry)) (2 * i + 1) 0) ⌝ }
+{
+    Pair {
+        mask: store[2 * i],
+        values: store[2 * i + 1],
+    }
+}
+
+// Whether a node, given by its values and its widened mask, contains one of the m conflicts.
+pub fn manifests_any(store: &[u64], m: usize, values: u64, wide: u64) -> bool
+    requires { ⌜ 2 * m ≤ length (now store) ⌝ }
+    ensures { λ r. ⌜ ((d : ℕ) (conflicts : List Assignment) (n : Assignment) → Keeps d (now (store .entry)) m conflicts → Wide n wide values → length n ≡ d → r ≡ manifestsAny conflicts n) ⌝ }
+{
+    let mut any = false;
+    let mut i = 0;
+    while i < m {
+        let e = entry_at(store, i);
+        any = any | words::manifests(values, wide, e.values, words::widened(e.mask));
+        i += 1;
+    }
+    any
+}
+
+// The first of the m conflicts that a node, given by its values and its widened mask, does not resolve.
+pub fn first_unresolved(store: &[u64], m: usize, values: u64, wide: u64) -> Unresolved
+    requires { ⌜ 2 * m ≤ length (now store) ⌝ }
+    ensures { λ r. ⌜ ((d : ℕ) (conflicts : List Assignment) (n : Assignment) → Keeps d (now (store .entry)) m conflicts → Wide n wide values → length n ≡ d → Tells r (firstUnresolved conflicts n)) ⌝ }
+{
+    let mut first = 0;
+    while first < m {
+        let e = entry_at(store, first);
+        if !words::resolves(values, wide, e.values, words::widened(e.mask)) {
+            return Unresolved::At(e.mask, e.values);
+        }
+        first += 1;
+    }
+    Unresolved::Nothing
+}
+
+// Puts a conflict behind the m entries.
+pub fn append(store: &mut [u64], m: usize, mask: u64, values: u64)
+    requires { ⌜ 2 * m + 2 ≤ length (now store) ⌝ }
+    ensures kept { λ _. ⌜ ((d : ℕ) (conflicts : List Assignment) (c : Assignment) → Keeps d (now (store .entry)) m conflicts → Words c mask values → length c ≡ d → Keeps d (now (store .exit)) (m + 1) (stored conflicts c)) ⌝ }
+    ensures behind { λ _. ⌜ drop (2 * m + 2) (now (store .exit)) ≡ drop (2 * m + 2) (now (store .entry)) ⌝ }
+{
+    store[2 * m] = mask;
+    store[2 * m + 1] = values;
+}
+
+// Zeroes the words behind the m entries.
+pub fn clear_from(store: &mut [u64], m: usize)
+    requires { ⌜ 2 * m ≤ length (now store) ⌝ }
+    ensures { λ _. ⌜ ((d : ℕ) (conflicts : List Assignment) → Keeps d (now (store .entry)) m conflicts → now (store .exit) ≡ filled (entryWords conflicts) (replicate (length (now (store .entry))) 0)) ⌝ }
+{
+    let mut word = 2 * m;
+    while word < store.len() {
+        store[word] = 0;
+        word += 1;
+    }
+}
