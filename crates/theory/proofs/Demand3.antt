@@ -22,7 +22,7 @@ use Rattle.theory.specs.Order.{In, Lawful}
 use Rattle.theory.specs.Consistency.{VariablesPresent}
 use Rattle.theory.specs.Run.{Good, Done}
 use Rattle.theory.specs.Demand3.{StoreAfter, Demand3, Promised}
-use Rattle.theory.proofs.Lists.{at-member, all-map, all-image}
+use Rattle.theory.proofs.Lists.{at-member, all-at, all-map, all-image}
 use Rattle.theory.proofs.Filled.{filled-take, filled-drop, filled-at}
 use Rattle.theory.proofs.BestFirst.{listed-first, listed-all}
 use Rattle.theory.proofs.BruteForce.{is-consistent}
@@ -78,12 +78,6 @@ module _ (o : Order) (b : Buffers) (s : State) where
 -- ---- places of a list
 
 module _ {A : Type 0} (d : A) where
-  -- what holds of all holds at each place
-  all-at : (P : A → Type 0) (xs : List A) → All P xs → (i : ℕ) → i < length xs → P (getD xs i d)
-  all-at P [] a i h = absurd (omega arith)
-  all-at P (x ∷ xs) a zero h = a .0
-  all-at P (x ∷ xs) a (suc i) h = all-at P xs (a .1) i (omega arith)
-
   -- in an ascending list, what comes before the member at a place stands at an earlier place
   module _ (R : A → A → Type 0) (irreflexive : (x : A) → R x x → ⊥) (transitive : (x y z : A) → R x y → R y z → R x z) where
     earlier : (f : A) (xs : List A) → Pairs R xs → Mem f xs → (i : ℕ) → i < length xs → R f (getD xs i d) → (j : ℕ) × (j < i) × (getD xs j d ≡ f)

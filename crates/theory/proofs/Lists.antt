@@ -6,7 +6,7 @@ use mathlib.Core.Bool.{Bool, true, false, _&&_, _||_}
 use Prim.Native.Nat.{ℕ, zero, suc, _+_, _≤_, _<_}
 use native.Mathlib.Omega.{arith}
 use lib.Dec.{T}
-use lib.ListN.{length}
+use lib.ListN.{length, getD}
 use Rattle.model.specs.Lists.{Some, Mem, All, Pairs, keepIf, keep, valuesFrom}
 use Rattle.theory.specs.Nodes.{sumOf}
 
@@ -206,3 +206,9 @@ and-both false b e = (e, cc)
 pub or-neither : (a b : Bool) → (a || b) ≡ false → (a ≡ false) × (b ≡ false)
 or-neither true b e = (e, cc)
 or-neither false b e = (refl, e)
+
+-- what holds of all holds at each place
+pub all-at : {A : Type 0} (d : A) (P : A → Type 0) (xs : List A) → All P xs → (i : ℕ) → i < length xs → P (getD xs i d)
+all-at d P [] a i h = absurd (omega arith)
+all-at d P (x ∷ xs) a zero h = a .0
+all-at d P (x ∷ xs) a (suc i) h = all-at d P xs (a .1) i (omega arith)

@@ -106,7 +106,7 @@ lower-le true n old h = omega arith
 lower-le false n old h = h
 
 -- the cheapest of the first n values is one of them, or 0 where there are none
-cheapest-low : (row : List ℕ) (n : ℕ) → cheapestOf row n ≤ n - 1
+pub cheapest-low : (row : List ℕ) (n : ℕ) → cheapestOf row n ≤ n - 1
 cheapest-low row zero = omega arith
 cheapest-low row (suc n) = omega (arith, lower-le (ltb (getD row n 0) (getD row (cheapestOf row n) 0)) n (cheapestOf row n) (omega (arith, cheapest-low row n)))
 
