@@ -19,7 +19,9 @@ pub mod Reduction
 pub mod ReductionSteps
 pub mod ReductionTrials
 pub mod Run
+pub mod Search
 pub mod Sheet
+pub mod TableClauses
 pub mod Tables
 pub mod Test
 pub mod TestClauses

@@ -6,5 +6,6 @@ pub mod Nodes
 pub mod Order
 pub mod Plant
 pub mod Run
+pub mod Search
 pub mod Tables
 pub mod Words

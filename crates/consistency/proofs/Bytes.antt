@@ -1,0 +1,71 @@
+-- An assignment lent as bytes: reading, storing and the values of a full one. Assumes nothing.
+use mathlib.Core.Path.{_≡_, refl, sym, ap, ap₂, _∙_}
+use mathlib.Core.Bool.{Bool, true, false, not, false≢true}
+use mathlib.Core.Option.{Option, none, some}
+use mathlib.Core.List.{List, [], _∷_, map}
+use Prim.Native.Nat.{ℕ, zero, suc, _<_}
+use native.Mathlib.Omega.{arith}
+use native.Mathlib.Decide.{ℕ-discrete}
+use borrow.Author.Tests.{eq-eqb, ne-eqb}
+use lib.Dec.{eqb}
+use lib.ListN.{length, getD, set}
+use Rattle.model.specs.Lists.{All}
+use Rattle.model.specs.Assignment.{Assignment, Under, isSome, nibble, valueList}
+use Rattle.theory.specs.Words.{byte}
+use Rattle.theory.proofs.Agreement.{Filled}
+use Rattle.consistency.specs.Answers.{given}
+
+-- ---- one byte
+
+pub given-none : (b : ℕ) → b ≡ 16 → given b ≡ none
+unfolding given
+given-none b e = rw (given, eq-eqb b 16 e)
+
+pub given-some : (b : ℕ) → (b ≡ 16 → ⊥) → given b ≡ some b
+unfolding given
+given-some b d = rw (given, ne-eqb b 16 d)
+
+-- a byte is 16 exactly where nothing is given
+pub none-given : (b : ℕ) → given b ≡ none → b ≡ 16
+none-given b e = elim (ℕ-discrete b 16) [ yes p ↦ p | no d ↦ absurd (let q = given-some b d in let z : _≡_ {A = ℕ} 0 1 = cc in omega arith) ]
+
+pub is-given : (b : ℕ) → isSome (given b) ≡ not (eqb b 16)
+is-given b = elim (ℕ-discrete b 16) [ yes e ↦ rw (given-none b e, eq-eqb b 16 e) | no d ↦ rw (given-some b d, ne-eqb b 16 d) ]
+
+-- a byte is what it gives, and gives what it is
+byte-given : (b : ℕ) → byte (given b) ≡ b
+byte-given b = elim (ℕ-discrete b 16) [ yes e ↦ rw (given-none b e) (sym e) | no d ↦ rw (given-some b d) ]
+
+given-byte : (o : Option ℕ) → Under 16 o → given (byte o) ≡ o
+given-byte none h = given-none 16 refl
+given-byte (some x) h = given-some x (λ e. omega arith)
+
+-- ---- all bytes
+
+pub given-length : (vals : List ℕ) → length (map given vals) ≡ length vals
+given-length [] = refl
+given-length (b ∷ vals) = ap suc (given-length vals)
+
+pub given-at : (vals : List ℕ) (v : ℕ) → v < length vals → getD (map given vals) v none ≡ given (getD vals v 0)
+given-at [] v h = absurd (omega arith)
+given-at (b ∷ vals) zero h = refl
+given-at (b ∷ vals) (suc v) h = given-at vals v (omega arith)
+
+pub given-set : (vals : List ℕ) (v b : ℕ) → map given (set vals v b) ≡ set (map given vals) v (given b)
+given-set [] v b = refl
+given-set (c ∷ vals) zero b = refl
+given-set (c ∷ vals) (suc v) b = ap (λ (a : Assignment). given c ∷ a) (given-set vals v b)
+
+-- the bytes of an assignment give it
+pub given-bytes : (a : Assignment) → All (Under 16) a → map given (map byte a) ≡ a
+given-bytes [] h = refl
+given-bytes (o ∷ a) h = ap₂ _∷_ (given-byte o (h .0)) (given-bytes a (h .1))
+
+-- where all variables are assigned, the bytes are the values
+pub filled-values : (vals : List ℕ) → Filled (length vals) (map given vals) → valueList (map given vals) ≡ vals
+filled-values [] f = refl
+filled-values (b ∷ vals) f = ap₂ _∷_ (go (given b) (f .0) ∙ byte-given b) (filled-values vals (f .1))
+  where
+    go : (o : Option ℕ) → isSome o ≡ true → nibble o ≡ byte o
+    go none h = absurd (false≢true h)
+    go (some x) h = refl

@@ -1,0 +1,11 @@
+pub mod Bits
+pub mod Bytes
+pub mod Callers
+pub mod Endings
+pub mod Filling
+pub mod FirstSets
+pub mod Marks
+pub mod Parts
+pub mod Rows
+pub mod Turns
+pub mod Whole

@@ -1,0 +1,262 @@
+-- The search at the variable v, and the turns of its loop over the values of v: what holds at the head of the loop, and what follows at each way out. Assumes nothing.
+use mathlib.Core.Path.{_≡_, refl, sym, ap, ap₂, _∙_}
+use mathlib.Core.Bool.{Bool, true, false, _||_, true≢false}
+use mathlib.Core.Option.{Option, none, some}
+use mathlib.Core.List.{List, map}
+use Prim.Native.Nat.{ℕ, suc, _+_, _-_, _*_, _<_, _≤_}
+use native.Mathlib.Omega.{arith}
+use native.Mathlib.Numerals.{add-one}
+use lib.ListN.{length, getD, set, length-set}
+use lib.Seq.{set-set, set-getD, getD-set-other}
+use Rattle.model.specs.Sheet.{Literal}
+use Rattle.model.specs.Assignment.{Assignment}
+use Rattle.model.specs.Consistency.{Tested, consistent, inconsistent, spent, orElse, anyFalse, tryValues, explore}
+use Rattle.theory.specs.Search.{nth, satisfied, due}
+use Rattle.theory.proofs.Agreement.{Filled, filled-more}
+use Rattle.theory.proofs.TestSteps.{attempt, attempt-false, attempt-deeper, turn, turn-spent, hop-try, hop-skip}
+use Rattle.theory.proofs.Search.{due-set, satisfied-set, filled-next, trial-clear, trial-satisfied}
+use Rattle.consistency.specs.declared.Answer.{Answer}
+use Rattle.consistency.specs.declared.Answer.the-variants.{Consistent, Inconsistent, Spent}
+use Rattle.consistency.specs.Answers.{given, Ended}
+use Rattle.consistency.specs.Sets.{inSet, SetOf, Joined, Covers}
+use Rattle.consistency.specs.Given.{DueFrom, Room, Stands}
+use Rattle.consistency.proofs.Endings.{as-consistent, as-inconsistent, as-spent, was-consistent, was-inconsistent, was-spent, moved}
+use Rattle.consistency.proofs.Bytes.{given-length, given-at, given-set, given-none, given-some, filled-values}
+
+-- ---- at the variable v
+
+module _ (sizes sat last vals : List ℕ) (v : ℕ) (room : Room sizes sat last vals v) where
+  -- behind the last variable all are assigned
+  pub all-set : v ≡ length sizes → (held : List ℕ) (limit used : ℕ) (cs : List (List Literal)) → Stands cs sat last vals held v
+      → Ended (explore cs limit sizes (length sizes - v) v used (map given vals)) vals vals (Consistent used)
+  unfolding explore
+  all-set e held limit used cs s =
+      let z : length sizes - v ≡ 0 = omega arith in
+      let w : v ≡ length vals = omega (arith, room .same) in
+      as-consistent (explore cs limit sizes (length sizes - v) v used (map given vals)) vals vals used
+      (rw z (ap (λ (f : List ℕ). consistent f used) (filled-values vals (rw w at (s .filled)))))
+
+  module _ (lt : v < length sizes) where
+    here : getD (map given vals) v none ≡ given (getD vals v 0)
+    here = given-at vals v (omega (arith, room .same))
+
+    more : length sizes - v ≡ suc (length sizes - (v + 1))
+    more = omega arith
+
+    pub room-next : Room sizes sat last vals (v + 1)
+    room-next = record { upto = omega arith; few = room .few; small = room .small; same = room .same; sat-long = room .sat-long; last-long = room .last-long }
+
+    -- a variable with a value is passed over
+    pub passed : (getD vals v 0 ≡ 16 → ⊥) → (held : List ℕ) (limit used : ℕ) (after : List ℕ) (r : Answer)
+        → ((cs : List (List Literal)) → Stands cs sat last vals held (v + 1) → Ended (explore cs limit sizes (length sizes - (v + 1)) (v + 1) used (map given vals)) vals after r)
+        → (cs : List (List Literal)) → Stands cs sat last vals held v → Ended (explore cs limit sizes (length sizes - v) v used (map given vals)) vals after r
+    passed has held limit used after r deep cs s =
+        let is : getD (map given vals) v none ≡ some (getD vals v 0) = here ∙ given-some (getD vals v 0) has in
+        moved (explore cs limit sizes (length sizes - v) v used (map given vals)) (explore cs limit sizes (length sizes - (v + 1)) (v + 1) used (map given vals)) vals after r
+        (rw more (hop-skip cs limit sizes (length sizes - (v + 1)) v used (map given vals) (getD vals v 0) is))
+        (deep cs record {
+          many = s .many;
+          satisfies = s .satisfies;
+          dues = record { has = λ u h. s .dues .has u (omega arith) };
+          holds = s .holds;
+          filled = rw add-one (filled-more v (map given vals) (getD vals v 0) is (s .filled));
+          clear = s .clear;
+        })
+
+-- ---- the loop over the values of v
+
+module _ (sizes sat last vals₀ held : List ℕ) (v used limit size : ℕ) where
+  -- the assignment where the loop begins, and what the model says of it from v on, and of another from the next variable on
+  abbrev a₀ : Assignment
+  a₀ = map given vals₀
+
+  abbrev Says : List (List Literal) → Tested
+  Says cs = explore cs limit sizes (length sizes - v) v used a₀
+
+  abbrev deeper : List (List Literal) → ℕ → Assignment → Tested
+  deeper cs = explore cs limit sizes (length sizes - (v + 1)) (v + 1)
+
+  -- at the head of the loop, before the value x, with u trials made: the values from x on decide
+  pub record Turn (vals : List ℕ) (u x : ℕ) : Type 0 where
+    pub room : Room sizes sat last vals₀ v
+    pub below : v < length sizes
+    pub free : getD vals₀ v 0 ≡ 16
+    pub sized : size ≡ getD sizes v 0
+    pub upto : x ≤ size
+    pub long : length vals ≡ length vals₀
+    pub back : (cs : List (List Literal)) → Stands cs sat last vals₀ held v → set vals v 16 ≡ vals₀
+    pub says : (cs : List (List Literal)) → Stands cs sat last vals₀ held v → Says cs ≡ tryValues cs limit (deeper cs) v a₀ (size - x) x u
+
+  -- the first turn
+  pub turn-first : Room sizes sat last vals₀ v → v < length sizes → getD vals₀ v 0 ≡ 16 → size ≡ getD sizes v 0 → Turn vals₀ used 0
+  turn-first room lt free sized = record {
+    room = room;
+    below = lt;
+    free = free;
+    sized = sized;
+    upto = omega arith;
+    long = refl;
+    back = λ cs s. ap (set vals₀ v) (sym free) ∙ set-getD vals₀ v 0;
+    says = λ cs s.
+        let z : size - 0 ≡ getD sizes v 0 = omega arith in
+        rw (more sizes sat last vals₀ v room lt, z)
+        (hop-try cs limit sizes (length sizes - (v + 1)) v used a₀ (here sizes sat last vals₀ v room lt ∙ given-none (getD vals₀ v 0) free));
+  }
+
+  module _ (vals : List ℕ) (u x : ℕ) (t : Turn vals u x) where
+    -- every value was tried
+    pub turn-end : size ≤ x → (cs : List (List Literal)) → Stands cs sat last vals₀ held v → Ended (Says cs) vals₀ (set vals v 16) (Inconsistent u)
+    unfolding tryValues
+    turn-end h cs s =
+        let z : size - x ≡ 0 = omega arith in
+        as-inconsistent (Says cs) vals₀ (set vals v 16) u (t .says cs s ∙ rw z) (t .back cs s)
+
+    module _ (lt : x < size) where
+      left : size - x ≡ suc (size - (x + 1))
+      left = omega arith
+
+      -- no trial is left
+      pub turn-stop : limit ≤ u → (cs : List (List Literal)) → Stands cs sat last vals₀ held v → Ended (Says cs) vals₀ (set vals v 16) (Spent u)
+      turn-stop h cs s = as-spent (Says cs) vals₀ (set vals v 16) u (t .says cs s ∙ rw left (turn-spent cs limit (deeper cs) v a₀ (size - (x + 1)) x u h)) (t .back cs s)
+
+      pub value : x < 16
+      value = omega (arith, t .room .small v, t .sized)
+
+      -- the row of the table that the turn reads
+      pub row-within : (v * 16 + x) * 8 + 8 ≤ length sat
+      row-within = omega (arith, value, t .below, t .room .few, t .room .sat-long)
+
+      -- the room after a trial
+      pub room-set : Room sizes sat last (set vals v x) (v + 1)
+      room-set = record {
+        upto = omega (arith, t .below);
+        few = t .room .few;
+        small = t .room .small;
+        same = length-set vals v x ∙ t .long ∙ t .room .same;
+        sat-long = t .room .sat-long;
+        last-long = t .room .last-long;
+      }
+
+      -- the assignment after the trial of x
+      abbrev a : Assignment
+      a = set a₀ v (some x)
+
+      -- what the sets say after it
+      module _ (ul : u < limit) (row : ℕ) (joined : List ℕ) (r : Bool) (at-row : row ≡ v * 16 + x)
+          (joins : Joined held sat row true joined) (covers : Covers last v joined r) (cs : List (List Literal)) (s : Stands cs sat last vals₀ held v) where
+        placed : map given (set vals v x) ≡ a
+        placed =
+            ap (map given) (sym (ap (λ (l : List ℕ). set l v x) (sym (t .back cs s)) ∙ set-set vals v 16 x))
+            ∙ given-set vals₀ v x ∙ ap (set a₀ v) (given-some x (λ e. omega (arith, value)))
+
+        inside₀ : v < length a₀
+        inside₀ = omega (arith, given-length vals₀, t .room .same, t .below)
+
+        free₀ : getD a₀ v none ≡ none
+        free₀ = here sizes sat last vals₀ v (t .room) (t .below) ∙ given-none (getD vals₀ v 0) (t .free)
+
+        holds-now : SetOf (satisfied a) cs joined 0
+        holds-now = record {
+          has = λ c h. joins .has c h
+              ∙ ap₂ _||_ (s .holds .has c h) (ap (λ (k : ℕ). inSet sat k c) at-row ∙ s .satisfies v x (omega (arith, t .below, t .room .few)) value .has c h)
+              ∙ sym (satisfied-set a₀ v x inside₀ free₀ (nth cs c));
+        }
+
+        dues : SetOf (due a₀ v) cs last v
+        dues = s .dues .has v (omega arith) (omega (arith, t .room .same, t .below)) free₀
+
+        -- the test passes exactly if no clause is false
+        clear : r ≡ true → anyFalse a cs ≡ false
+        clear e = trial-clear cs a₀ v x inside₀ free₀ (s .filled) (s .clear)
+            (λ c l d. let b : c < 512 = omega (arith, s .many) in sym (holds-now .has c b) ∙ covers .all e c b (dues .has c b ∙ d))
+
+        shut : r ≡ false → anyFalse a cs ≡ true
+        shut e = go (anyFalse a cs) refl
+          where
+            go : (b : Bool) → anyFalse a cs ≡ b → anyFalse a cs ≡ true
+            go true q = q
+            go false q = absurd (true≢false (sym (covers .only (λ c b i. holds-now .has c b ∙ trial-satisfied cs a₀ v x inside₀ free₀ (s .filled) q c (sym (dues .has c b) ∙ i))) ∙ e))
+
+        -- where it passes, the search stands at the next variable
+        stands-set : r ≡ true → Stands cs sat last (set vals v x) joined (v + 1)
+        stands-set e = record {
+          many = s .many;
+          satisfies = s .satisfies;
+          dues = record { has = λ w h l f. rw placed (next w h l (rw placed at f)) };
+          holds = rw placed holds-now;
+          filled = rw placed (filled-next a₀ v x inside₀ free₀ (s .filled));
+          clear = rw placed (clear e);
+        }
+          where
+            next : (w : ℕ) → v + 1 ≤ w → w < length (set vals v x) → getD a w none ≡ none → SetOf (due a w) cs last w
+            next w h l f = record {
+              has = λ c b. s .dues .has w (omega arith) (omega (arith, length-set vals v x, t .long)) (sym (getD-set-other a₀ v w (some x) none (λ e. omega arith)) ∙ f) .has c b
+                  ∙ sym (due-set a₀ v x inside₀ free₀ w (omega arith) (nth cs c));
+            }
+
+        tried : Says cs ≡ orElse (attempt cs limit (deeper cs) v a₀ x u) (tryValues cs limit (deeper cs) v a₀ (size - (x + 1)) (x + 1))
+        tried = t .says cs s ∙ rw left (turn cs limit (deeper cs) v a₀ (size - (x + 1)) x u ul)
+
+        -- where it fails, the next value is tried
+        tried-next : r ≡ false → Says cs ≡ tryValues cs limit (deeper cs) v a₀ (size - (x + 1)) (x + 1) (u + 1)
+        unfolding orElse
+        tried-next e = tried ∙ ap (λ (q : Tested). orElse q (tryValues cs limit (deeper cs) v a₀ (size - (x + 1)) (x + 1))) (attempt-false cs limit (deeper cs) v a₀ x u (shut e))
+
+        -- where it passes, what the search from the next variable on says decides
+        tried-deeper : r ≡ true → (d : Tested) → deeper cs (u + 1) (map given (set vals v x)) ≡ d → Says cs ≡ orElse d (tryValues cs limit (deeper cs) v a₀ (size - (x + 1)) (x + 1))
+        tried-deeper e d q =
+            tried ∙ ap (λ (q : Tested). orElse q (tryValues cs limit (deeper cs) v a₀ (size - (x + 1)) (x + 1)))
+            (attempt-deeper cs limit (deeper cs) v a₀ x u (clear e) ∙ ap (deeper cs (u + 1)) (sym placed) ∙ q)
+
+      -- on to the next value, with the assignment and the trials as they are now
+      again : (vals′ : List ℕ) (u′ : ℕ) → length vals′ ≡ length (set vals v x)
+          → ((cs : List (List Literal)) → Stands cs sat last vals₀ held v → (vals′ ≡ set vals v x) × (Says cs ≡ tryValues cs limit (deeper cs) v a₀ (size - (x + 1)) (x + 1) u′))
+          → Turn vals′ u′ (x + 1)
+      again vals′ u′ p k = record {
+        room = t .room;
+        below = t .below;
+        free = t .free;
+        sized = t .sized;
+        upto = omega arith;
+        long = p ∙ length-set vals v x ∙ t .long;
+        back = λ cs s. ap (λ (l : List ℕ). set l v 16) (k cs s .0) ∙ set-set vals v x 16 ∙ t .back cs s;
+        says = λ cs s. k cs s .1;
+      }
+
+      module _ (ul : u < limit) (row : ℕ) (joined : List ℕ) (r : Bool) (at-row : row ≡ v * 16 + x)
+          (joins : Joined held sat row true joined) (covers : Covers last v joined r) where
+        -- the test failed
+        pub turn-again : r ≡ false → (vals′ : List ℕ) (u′ : ℕ) → vals′ ≡ set vals v x → u′ ≡ u + 1 → Turn vals′ u′ (x + 1)
+        turn-again e vals′ u′ p q = again vals′ u′ (ap length p) (λ cs s. (p, rw q (tried-next ul row joined r at-row joins covers cs s e)))
+
+        -- the test passed, and the search from the next variable on ended
+        module _ (passes : r ≡ true) (after : List ℕ) (b : Answer) (n : ℕ)
+            (deep : (cs : List (List Literal)) → Stands cs sat last (set vals v x) joined (v + 1) → Ended (deeper cs (u + 1) (map given (set vals v x))) (set vals v x) after b) where
+          module _ (cs : List (List Literal)) (s : Stands cs sat last vals₀ held v) where
+            ended : Ended (deeper cs (u + 1) (map given (set vals v x))) (set vals v x) after b
+            ended = deep cs (stands-set ul row joined r at-row joins covers cs s passes)
+
+            says-deeper : (d : Tested) → deeper cs (u + 1) (map given (set vals v x)) ≡ d → Says cs ≡ orElse d (tryValues cs limit (deeper cs) v a₀ (size - (x + 1)) (x + 1))
+            says-deeper = tried-deeper ul row joined r at-row joins covers cs s passes
+
+            pub deep-found : b ≡ Consistent n → Ended (Says cs) vals₀ after (Consistent n)
+            unfolding orElse
+            deep-found q =
+                as-consistent (Says cs) vals₀ after n
+                (says-deeper (consistent after n) (was-consistent (deeper cs (u + 1) (map given (set vals v x))) (set vals v x) after n b ended q))
+
+            pub deep-stop : b ≡ Spent n → Ended (Says cs) vals₀ (set after v 16) (Spent n)
+            unfolding orElse
+            deep-stop q =
+                let e = was-spent (deeper cs (u + 1) (map given (set vals v x))) (set vals v x) after n b ended q in
+                as-spent (Says cs) vals₀ (set after v 16) n (says-deeper (spent n) (e .0))
+                (ap (λ (l : List ℕ). set l v 16) (e .1) ∙ set-set vals v x 16 ∙ t .back cs s)
+
+            deep-next : b ≡ Inconsistent n → (after ≡ set vals v x) × (Says cs ≡ tryValues cs limit (deeper cs) v a₀ (size - (x + 1)) (x + 1) n)
+            unfolding orElse
+            deep-next q =
+                let e = was-inconsistent (deeper cs (u + 1) (map given (set vals v x))) (set vals v x) after n b ended q in
+                (e .1, says-deeper (inconsistent n) (e .0))
+
+          pub deep-again : b ≡ Inconsistent n → length after ≡ length (set vals v x) → (vals′ : List ℕ) (u′ : ℕ) → vals′ ≡ after → u′ ≡ n → Turn vals′ u′ (x + 1)
+          deep-again q l vals′ u′ p w = rw (p, w) (again after n l (λ cs s. deep-next cs s q))

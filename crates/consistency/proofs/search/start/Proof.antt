@@ -1,0 +1,100 @@
+-- `search::start` meets its contract. The loop, from the last variable down: the sets are those of the variables from v on. Assumes nothing.
+use mathlib.Core.Path.{_≡_, refl, sym, _∙_}
+use mathlib.Core.List.{List}
+use Prim.Native.Nat.{ℕ, _+_, _-_, _*_, _≤_, _<_}
+use lib.ListN.{length}
+use Rattle.model.specs.Sheet.{Literal}
+use Rattle.consistency.specs.Given.{Lent, Clauses}
+use Rattle.consistency.proofs.FirstSets.{value-below, From, from-first, from-next, from-end}
+use native.Mathlib.Omega.{arith}
+use borrow.Author.Needs.{needs}
+use Rattle.consistency.proofs.search.start.Statement.{statement}
+use Rattle.consistency.proofs.search.start.Tie as tie
+
+abbrev Inv-loop : tie.InvT-loop
+Inv-loop vals sat uses last₀ held₀ free₀ v₀ last held free v =
+    (v ≤ length vals)
+    × (length last ≡ length last₀)
+    × Lent vals sat uses last₀
+    × ((cs : List (List Literal)) → Clauses cs vals sat uses → From vals sat uses cs last held free v)
+
+abbrev μ-loop : tie.MeasureT-loop
+μ-loop vals sat uses last₀ held₀ free₀ v₀ last held free v = v
+
+loop-holds : tie.Need-loop-holds Inv-loop μ-loop
+loop-holds c = (omega arith, refl, c .before .before .before .before .pre, λ cs k. from-first _ _ _ cs _ k)
+
+sub-v : tie.Need-sub-v Inv-loop μ-loop
+sub-v c = omega arith
+
+store-less-requires : tie.Need-store-less-requires Inv-loop μ-loop
+store-less-requires c κs =
+    let h = c .before .before .loop in
+    (omega (arith, h .inv .1, h .inv .2 .few, h .inv .2 .last-long), omega (arith, h .inv .2 .few, h .inv .2 .uses-long))
+
+shared-slice-read-a : tie.Need-shared-slice-read-a Inv-loop μ-loop
+shared-slice-read-a c = omega arith
+
+joined-if-requires : tie.Need-joined-if-requires Inv-loop μ-loop
+joined-if-requires c κs =
+    let h = c .before .before .before .before .before .before .loop in
+    λ e. omega (arith, h .inv .2 .few, h .inv .2 .uses-long)
+
+mul-joined-if : tie.Need-mul-joined-if Inv-loop μ-loop
+mul-joined-if c = omega (arith, c .before .before .before .before .before .before .before .loop .inv .2 .few)
+
+wide-requires : tie.Need-wide-requires Inv-loop μ-loop
+wide-requires c κs = search needs
+
+add-joined-if : tie.Need-add-joined-if Inv-loop μ-loop
+add-joined-if c =
+    let h = c .before .before .before .before .before .before .before .before .loop in
+    omega (arith, c .wide .ensures, h .inv .2 .few, h .inv .2 .bytes (h .v - 1))
+
+joined-if-requires-2 : tie.Need-joined-if-requires-2 Inv-loop μ-loop
+joined-if-requires-2 c κs =
+    let h = c .before .before .before .before .before .before .before .before .loop in
+    λ e. omega (arith, c .wide .ensures, h .inv .2 .few, h .inv .2 .sat-long, value-below _ (h .inv .2 .bytes (h .v - 1)) e)
+
+loop-less : tie.Need-loop-less Inv-loop μ-loop
+loop-less c = omega arith
+
+loop-again : tie.Need-loop-again Inv-loop μ-loop
+loop-again c =
+    let h = c .before .before .before .before .before .before .before .before .before .loop in
+    let m = c .before .before .before .before .before .before .store-less in
+    let e : h .v ≡ h .v - 1 + 1 = omega arith in (
+      omega arith,
+      m .kept .0 ∙ h .inv .1,
+      h .inv .2,
+      λ cs k. from-next _ _ _ (h .v - 1) (h .inv .2 .few) (omega arith) (h .inv .2 .bytes (h .v - 1)) _ _ _ _ (m .ensures) _ (rw (c .before .wide .ensures)) _ _ (c .before .before .joined-if .ensures) (c .joined-if2 .ensures) cs k (rw e at (h .inv .3 cs k)),
+    )
+
+same-length : tie.Need-same-length Inv-loop μ-loop
+same-length c = c .before .loop .inv .1
+
+returns : tie.Need-returns Inv-loop μ-loop
+returns c =
+    let h = c .before .loop in
+    let e : h .v ≡ 0 = omega arith in
+    λ cs k. from-end _ _ _ cs _ _ _ (rw e at (h .inv .3 cs k))
+
+pub start-spec : {M : Type 1} → statement M
+start-spec =
+    tie.close
+    (tie.spec
+    Inv-loop
+    μ-loop
+    loop-holds
+    sub-v
+    store-less-requires
+    shared-slice-read-a
+    joined-if-requires
+    mul-joined-if
+    wide-requires
+    add-joined-if
+    joined-if-requires-2
+    loop-less
+    loop-again
+    same-length
+    returns)

@@ -1,0 +1,85 @@
+-- `tables::mark` meets its contract. The loop: the rows of the values from x on are still to come. Assumes nothing.
+use Prim.Native.Nat.{_-_, _≤_}
+use mathlib.Core.Path.{_≡_, refl, sym, ap, _∙_}
+use mathlib.Core.Logic.{⊎-elim}
+use lib.ListN.{length}
+use Rattle.consistency.specs.Sets.{literalRows}
+use Rattle.consistency.proofs.Marks.{Marking, marking-first, marking-step, marking-skip, marking-end, rowsFrom, rows-all, rows-end, rows-fail, rows-hold}
+use native.Mathlib.Omega.{arith}
+use borrow.Author.Needs.{needs}
+use Rattle.consistency.proofs.tables.mark.Statement.{statement}
+use Rattle.consistency.proofs.tables.mark.Tie as tie
+
+abbrev Inv-loop : tie.InvT-loop
+Inv-loop sat₀ var sign value c x₀ sat x = (x ≤ 16) × (length sat ≡ length sat₀) × Marking (rowsFrom var sign value x) (literalRows var sign value) sat₀ c sat
+
+abbrev μ-loop : tie.MeasureT-loop
+μ-loop sat₀ var sign value c x₀ sat x = 16 - x
+
+loop-holds : tie.Need-loop-holds Inv-loop μ-loop
+loop-holds c = (omega arith, refl, marking-skip _ _ _ _ _ _ (marking-first _ _ _) (λ r. sym (rows-all _ _ _ r)))
+
+holds-requires : tie.Need-holds-requires Inv-loop μ-loop
+holds-requires c κs = search needs
+
+mul-add : tie.Need-mul-add Inv-loop μ-loop
+mul-add c = omega arith
+
+wide-requires : tie.Need-wide-requires Inv-loop μ-loop
+wide-requires c κs = search needs
+
+add-add : tie.Need-add-add Inv-loop μ-loop
+add-add c = omega (arith, c .wide .ensures)
+
+add-requires : tie.Need-add-requires Inv-loop μ-loop
+add-requires c κs = omega (arith, c .wide .ensures)
+
+add-x : tie.Need-add-x Inv-loop μ-loop
+add-x c = omega arith
+
+loop-less : tie.Need-loop-less Inv-loop μ-loop
+loop-less c = omega arith
+
+loop-again : tie.Need-loop-again Inv-loop μ-loop
+loop-again c =
+    let h = c .before .before .before .loop in
+    let s = c .before .before .before .before .before .args in
+    ⊎-elim
+    (λ k. (
+      omega arith,
+      ap length (k .6) ∙ k .3 .kept .0 ∙ h .inv .1,
+      rw (k .6) (marking-step _ _ _ _ _ _ _ _ (h .inv .2) (k .3 .ensures) (λ r. rw (k .2 .ensures) (rows-hold (s .var) (s .sign) (s .value) (h .x) r (omega arith) (sym (c .before .holds .ensures) ∙ k .0 .taken)))),
+    ))
+    (λ k. (
+      omega arith,
+      ap length (k .1) ∙ h .inv .1,
+      rw (k .1) (marking-skip _ _ _ _ _ _ (h .inv .2) (λ r. rows-fail (s .var) (s .sign) (s .value) (h .x) r (sym (c .before .holds .ensures) ∙ k .0 .left))),
+    ))
+    (c .if1 .came)
+
+same-length : tie.Need-same-length Inv-loop μ-loop
+same-length c = c .before .loop .inv .1
+
+returns : tie.Need-returns Inv-loop μ-loop
+returns c =
+    let h = c .before .loop in
+    let e : h .x ≡ 16 = omega arith in
+    marking-end _ _ _ _ _ (h .inv .2) (rw e (rows-end _ _ _))
+
+pub mark-spec : {M : Type 1} → statement M
+mark-spec =
+    tie.close
+    (tie.spec
+    Inv-loop
+    μ-loop
+    loop-holds
+    holds-requires
+    mul-add
+    wide-requires
+    add-add
+    add-requires
+    add-x
+    loop-less
+    loop-again
+    same-length
+    returns)

@@ -1,0 +1,50 @@
+-- `test` meets its contract: the first question is decided by `any_false`, the rest by the search from variable 0 with the sets that `start` makes. Assumes nothing.
+use mathlib.Core.Path.{_≡_, refl, sym, _∙_}
+use Rattle.consistency.proofs.Whole.{tables-vals, lent-first, room-first, at-once, searched}
+use borrow.Author.Needs.{needs}
+use Rattle.consistency.proofs.test.Statement.{statement}
+use Rattle.consistency.proofs.test.Tie as tie
+
+any-false-requires : tie.Need-any-false-requires
+any-false-requires c κs = tables-vals _ _ _ _ _ _ (c .before .before .before .before .before .before .before .pre)
+
+same-length : tie.Need-same-length
+same-length c = search needs
+
+returns : tie.Need-returns
+returns c = at-once _ _ _ _ _ _ (c .before .before .before .before .before .before .before .before .before .pre) _ _ (sym (c .before .any-false .ensures) ∙ c .if1 .taken)
+
+slice-aggregate-start : tie.Need-slice-aggregate-start
+slice-aggregate-start c = search needs
+
+start-requires : tie.Need-start-requires
+start-requires c κs = lent-first _ _ _ _ _ _ (c .before .before .before .before .before .before .before .before .before .before .before .pre) _ refl
+
+slice-aggregate-search : tie.Need-slice-aggregate-search
+slice-aggregate-search c = search needs
+
+search-requires : tie.Need-search-requires
+search-requires c κs = room-first _ _ _ _ _ _ (c .before .before .before .before .before .before .before .before .before .before .before .before .before .before .before .pre) _ (c .before .before .before .start .kept .1 .1 .1 .0)
+
+same-length-2 : tie.Need-same-length-2
+same-length-2 c = c .before .before .search .kept .1 .1 .1 .0
+
+returns-2 : tie.Need-returns-2
+returns-2 c =
+    let s = c .before .before .before .before .before .before .before .before .before .before .before .before .before .before .before .before .before .before in
+    searched _ _ _ _ _ _ (s .pre) _ _ (sym (c .before .before .before .before .before .before .before .before .before .before .any-false .ensures) ∙ c .before .before .before .before .before .before .before .before .before .if1 .left)
+    _ _ _ _ (c .before .before .before .before .before .before .start .ensures) (c .before .before .search .ensures)
+
+pub test-spec : {M : Type 1} → statement M
+test-spec =
+    tie.close
+    (tie.spec
+    any-false-requires
+    same-length
+    returns
+    slice-aggregate-start
+    start-requires
+    slice-aggregate-search
+    search-requires
+    same-length-2
+    returns-2)

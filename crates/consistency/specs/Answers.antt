@@ -1,0 +1,46 @@
+-- A lent assignment, and what the test answers and leaves in it. Assumes nothing: these are definitions.
+use mathlib.Core.Path.{_≡_}
+use mathlib.Core.Bool.{Bool, true, false, not}
+use mathlib.Core.Option.{Option, none, some}
+use mathlib.Core.List.{List}
+use Prim.Native.Nat.{ℕ}
+use lib.Dec.{eqb}
+use lib.ListN.{length}
+use Rattle.model.specs.Sheet.{Literal}
+use Rattle.model.specs.Assignment.{Assignment}
+use Rattle.model.specs.Consistency.{Tested, consistent, inconsistent, spent, holdsAt, anyFalse, explore}
+use Rattle.consistency.specs.declared.Answer.{Answer}
+use Rattle.consistency.specs.declared.Answer.the-variants.{Consistent, Inconsistent, Spent}
+
+-- what a byte says of a variable: 16 that it is unassigned, else its value
+unfoldable pub given : ℕ → Option ℕ
+given b = elim (eqb b 16) [ true ↦ none | false ↦ some b ]
+
+-- whether a literal of this sign and value fails where this is given of its variable
+unfoldable pub failsAt : Option ℕ → ℕ → ℕ → Bool
+failsAt o sign value = elim o [ none ↦ false | some x ↦ not (holdsAt x sign value) ]
+
+-- the model's test over an assignment to all variables
+unfoldable pub testOver : List (List Literal) → List ℕ → ℕ → ℕ → Assignment → Tested
+testOver clauses sizes limit used a =
+    elim (anyFalse a clauses) [
+      | true ↦ inconsistent used
+      | false ↦ explore clauses limit sizes (length sizes) 0 used a
+    ]
+
+-- the answer that the code gives
+unfoldable pub answerOf : Tested → Answer
+answerOf (consistent f t) = Consistent t
+answerOf (inconsistent t) = Inconsistent t
+answerOf (spent t) = Spent t
+
+-- what it leaves in the lent bytes: the values found, or what was there before
+unfoldable pub leaves : List ℕ → Tested → List ℕ
+leaves before (consistent f t) = f
+leaves before (inconsistent t) = before
+leaves before (spent t) = before
+
+-- the code ended as the model does
+pub record Ended (e : Tested) (before after : List ℕ) (r : Answer) : Type 0 where
+  pub answer : r ≡ answerOf e
+  pub left : after ≡ leaves before e

@@ -1,0 +1,48 @@
+-- Sets of clauses as bits of words, and what is done with them. Assumes nothing: these are definitions.
+use mathlib.Core.Path.{_≡_}
+use mathlib.Core.Bool.{Bool, true, not, _&&_, _||_}
+use mathlib.Core.List.{List}
+use Prim.Native.Nat.{ℕ, zero, suc, _+_, _*_, _/_, _%_, _<_}
+use lib.Dec.{eqb}
+use lib.ListN.{getD}
+use Rattle.model.specs.Sheet.{Literal}
+use Rattle.model.specs.Consistency.{holdsAt}
+use Rattle.theory.specs.Search.{nth, satisfiedAt}
+
+-- the bit k of a word, counted from the lowest
+unfoldable pub bit : ℕ → ℕ → Bool
+bit w zero = eqb (w % 2) 1
+bit w (suc k) = bit (w / 2) k
+
+-- whether the clause c is in the set that the row holds: eight words to a row, 64 clauses to a word
+unfoldable pub inSet : List ℕ → ℕ → ℕ → Bool
+inSet table row c = bit (getD table (row * 8 + c / 64) 0) (c % 64)
+
+-- the row holds the clauses that pass a test
+pub record SetOf (test : List Literal → Bool) (cs : List (List Literal)) (table : List ℕ) (row : ℕ) : Type 0 where
+  pub has : (c : ℕ) → c < 512 → inSet table row c ≡ test (nth cs c)
+
+-- the set `joined` is the set with the clauses of the row added, if `on`
+pub record Joined (set table : List ℕ) (row : ℕ) (on : Bool) (joined : List ℕ) : Type 0 where
+  pub has : (c : ℕ) → c < 512 → inSet joined 0 c ≡ (inSet set 0 c || on && inSet table row c)
+
+-- r says whether each clause of the row is in the set
+pub record Covers (table : List ℕ) (row : ℕ) (set : List ℕ) (r : Bool) : Type 0 where
+  pub all : r ≡ true → (c : ℕ) → c < 512 → inSet table row c ≡ true → inSet set 0 c ≡ true
+  pub only : ((c : ℕ) → c < 512 → inSet table row c ≡ true → inSet set 0 c ≡ true) → r ≡ true
+
+-- the row of `after` holds what the row of the table holds and the set does not, and no other row changed
+pub record Less (before table : List ℕ) (row : ℕ) (set after : List ℕ) : Type 0 where
+  pub here : (c : ℕ) → c < 512 → inSet after row c ≡ (inSet table row c && not (inSet set 0 c))
+  pub rest : (r c : ℕ) → c < 512 → (r ≡ row → ⊥) → inSet after r c ≡ inSet before r c
+
+-- the clause c was put into the rows that `rows` names, and nothing else changed
+pub record Marked (rows : ℕ → Bool) (before : List ℕ) (c : ℕ) (after : List ℕ) : Type 0 where
+  pub has : (r k : ℕ) → k < 512 → inSet after r k ≡ (inSet before r k || eqb k c && rows r)
+
+-- the rows of a literal, and of a clause, in a table with a row for each variable and value
+unfoldable pub literalRows : ℕ → ℕ → ℕ → ℕ → Bool
+literalRows variable sign value r = eqb variable (r / 16) && holdsAt (r % 16) sign value
+
+unfoldable pub clauseRows : List Literal → ℕ → Bool
+clauseRows ls r = satisfiedAt (r / 16) (r % 16) ls

@@ -1,0 +1,82 @@
+// The search through the variables, with the set of the clauses that are satisfied so far.
+use super::Answer;
+use super::clauses::wide;
+use super::sets::{covers, joined, joined_if, store_less};
+ghost use mathlib.Core.List.{List, map};
+ghost use Prim.Native.Nat.{_-_};
+ghost use lib.ListN.{length};
+ghost use Rattle.model.specs.Sheet.{Literal};
+ghost use Rattle.model.specs.Consistency.{explore};
+ghost use Rattle.consistency.specs.Answers.{given, Ended};
+ghost use Rattle.consistency.specs.Given.{Lent, Clauses, Started, Room, Stands};
+
+// Stores in each row of `last` the clauses that are due at its variable, and returns those that are satisfied.
+pub fn start(vals: &[u8], sat: &[u64], uses: &[u64], last: &mut [u64]) -> [u64; 8]
+    requires { ⌜ Lent (now vals) (now sat) (now uses) (now last) ⌝ }
+    ensures { λ r. ⌜ ((cs : List (List Literal)) → Clauses cs (now (vals .entry)) (now (sat .entry)) (now (uses .entry)) → Started cs (now (vals .entry)) (now (last .exit)) r) ⌝ }
+{
+    let mut held = [0u64; 8];
+    let mut free = [0u64; 8];
+    let mut v = vals.len();
+    while v > 0 {
+        v -= 1;
+        store_less(last, uses, v, free);
+        let a = vals[v];
+        let wait = joined_if(free, uses, v, a == 16);
+        free = wait;
+        let hold = joined_if(held, sat, v * 16 + wide(a), a != 16);
+        held = hold;
+    }
+    held
+}
+
+// Goes through the variables from v on.
+pub fn search(
+    sizes: &[u8],
+    sat: &[u64],
+    last: &[u64],
+    vals: &mut [u8],
+    held: [u64; 8],
+    v: usize,
+    used: u32,
+    limit: u32,
+) -> Answer
+    requires { ⌜ Room (now sizes) (now sat) (now last) (now vals) v ⌝ }
+    ensures { λ r. ⌜ ((cs : List (List Literal)) → Stands cs (now (sat .entry)) (now (last .entry)) (now (vals .entry)) held v → Ended (explore cs limit (now (sizes .entry)) (length (now (sizes .entry)) - v) v used (map given (now (vals .entry)))) (now (vals .entry)) (now (vals .exit)) r) ⌝ }
+{
+    if v == sizes.len() {
+        return Answer::Consistent(used);
+    }
+    if vals[v] != 16 {
+        return search(sizes, sat, last, vals, held, v + 1, used, limit);
+    }
+    let size = sizes[v];
+    let mut u = used;
+    let mut x: u8 = 0;
+    while x < size {
+        if u >= limit {
+            vals[v] = 16;
+            return Answer::Spent(u);
+        }
+        vals[v] = x;
+        u += 1;
+        let more = joined(held, sat, v * 16 + wide(x));
+        if covers(last, v, more) {
+            match search(sizes, sat, last, vals, more, v + 1, u, limit) {
+                Answer::Consistent(t) => {
+                    return Answer::Consistent(t);
+                }
+                Answer::Spent(t) => {
+                    vals[v] = 16;
+                    return Answer::Spent(t);
+                }
+                Answer::Inconsistent(t) => {
+                    u = t;
+                }
+            }
+        }
+        x += 1;
+    }
+    vals[v] = 16;
+    Answer::Inconsistent(u)
+}

@@ -1,0 +1,70 @@
+// Sets of at most 512 clauses: a set is eight words, and a table has a set in each of its rows.
+ghost use mathlib.Core.Path.{_≡_};
+ghost use mathlib.Core.Bool.{true};
+ghost use Prim.Native.Nat.{_+_, _*_, _<_, _≤_};
+ghost use lib.ListN.{length};
+ghost use lib.Dec.{eqb};
+ghost use Rattle.consistency.specs.Sets.{Joined, Covers, Less, Marked};
+
+// The set with the clauses of the row added.
+pub fn joined(set: [u64; 8], table: &[u64], row: usize) -> [u64; 8]
+    requires { ⌜ row * 8 + 8 ≤ length (now table) ⌝ }
+    ensures { λ r. ⌜ Joined set (now (table .entry)) row true r ⌝ }
+{
+    let mut out = set;
+    let mut k = 0;
+    while k < 8 {
+        out[k] = out[k] | table[row * 8 + k];
+        k += 1;
+    }
+    out
+}
+
+// The set with the clauses of the row added, if `on`.
+pub fn joined_if(set: [u64; 8], table: &[u64], row: usize, on: bool) -> [u64; 8]
+    requires { ⌜ (on ≡ true → row * 8 + 8 ≤ length (now table)) ⌝ }
+    ensures { λ r. ⌜ Joined set (now (table .entry)) row on r ⌝ }
+{
+    if on {
+        return joined(set, table, row);
+    }
+    set
+}
+
+// Whether each clause of the row is in the set.
+pub fn covers(table: &[u64], row: usize, set: [u64; 8]) -> bool
+    requires { ⌜ row * 8 + 8 ≤ length (now table) ⌝ }
+    ensures { λ r. ⌜ Covers (now (table .entry)) row set r ⌝ }
+{
+    let mut k = 0;
+    while k < 8 {
+        let due = table[row * 8 + k];
+        if due & set[k] != due {
+            return false;
+        }
+        k += 1;
+    }
+    true
+}
+
+// Stores in the row the clauses of the same row of the other table that are not in the set.
+pub fn store_less(to: &mut [u64], table: &[u64], row: usize, set: [u64; 8])
+    requires { ⌜ (row * 8 + 8 ≤ length (now to)) × (row * 8 + 8 ≤ length (now table)) ⌝ }
+    ensures { λ r. ⌜ Less (now (to .entry)) (now (table .entry)) row set (now (to .exit)) ⌝ }
+{
+    let mut k = 0;
+    while k < 8 {
+        let at = row * 8 + k;
+        to[at] = table[at] ^ (table[at] & set[k]);
+        k += 1;
+    }
+}
+
+// Puts the clause c into the row.
+pub fn add(table: &mut [u64], row: usize, c: usize)
+    requires { ⌜ (row * 8 + 8 ≤ length (now table)) × (c < 512) ⌝ }
+    ensures { λ _. ⌜ Marked (λ r. eqb row r) (now (table .entry)) c (now (table .exit)) ⌝ }
+{
+    let at = row * 8 + c / 64;
+    table[at] = table[at] | (1u64 << (c % 64));
+}

@@ -1,0 +1,68 @@
+// The two tables of sets that are made once for a plant: `sat` has a row for each variable and value, the clauses that it
+// satisfies; `uses` has a row for each variable, the clauses that mention it.
+use super::clauses::{holds, wide};
+use super::sets::add;
+ghost use mathlib.Core.Path.{_≡_};
+ghost use Prim.Native.Nat.{ℕ, _<_, _≤_};
+ghost use lib.ListN.{length, getD};
+ghost use Rattle.model.specs.Lists.{All};
+ghost use Rattle.theory.specs.Tables.{literals, clauses};
+ghost use Rattle.theory.specs.Search.{mentions};
+ghost use Rattle.consistency.specs.Sets.{Marked, literalRows, clauseRows};
+ghost use Rattle.consistency.specs.Given.{Tables, Prepared};
+
+// Empties every row.
+fn clear(table: &mut [u64])
+    ensures { λ r. ⌜ ((k : ℕ) → getD (now (table .exit)) k 0 ≡ 0) ⌝ }
+{
+    let mut i = 0;
+    while i < table.len() {
+        table[i] = 0;
+        i += 1;
+    }
+}
+
+// Puts the clause c into the rows of the values at which one of its literals holds.
+fn mark(sat: &mut [u64], var: usize, sign: u8, value: u8, c: usize)
+    requires { ⌜ (var < 48) × (6144 ≤ length (now sat)) × (c < 512) ⌝ }
+    ensures { λ r. ⌜ Marked (literalRows var sign value) (now (sat .entry)) c (now (sat .exit)) ⌝ }
+{
+    let mut x: u8 = 0;
+    while x < 16 {
+        if holds(x, sign, value) {
+            add(sat, var * 16 + wide(x), c);
+        }
+        x += 1;
+    }
+}
+
+// Puts the clause c, whose literals the part holds, into its rows of both tables.
+fn mark_clause(sat: &mut [u64], uses: &mut [u64], part: &[u8], c: usize)
+    requires { ⌜ All (λ l. l .variable < 48) (literals (now part)) × (6144 ≤ length (now sat)) × (384 ≤ length (now uses)) × (c < 512) ⌝ }
+    ensures { λ r. ⌜ Marked (clauseRows (literals (now (part .entry)))) (now (sat .entry)) c (now (sat .exit)) × Marked (λ v. mentions v (literals (now (part .entry)))) (now (uses .entry)) c (now (uses .exit)) ⌝ }
+{
+    let mut i = 0;
+    while i + 2 < part.len() {
+        let var = wide(part[i]);
+        mark(sat, var, part[i + 1], part[i + 2], c);
+        add(uses, var, c);
+        i += 3;
+    }
+}
+
+// Fills the two tables of a plant.
+pub fn prepare(counts: &[u8], lits: &[u8], sat: &mut [u64], uses: &mut [u64])
+    requires { ⌜ Tables 48 (now counts) (now lits) × (6144 ≤ length (now sat)) × (384 ≤ length (now uses)) ⌝ }
+    ensures { λ r. ⌜ Prepared (clauses (now (counts .entry)) (now (lits .entry))) (now (sat .exit)) (now (uses .exit)) ⌝ }
+{
+    clear(sat);
+    clear(uses);
+    let mut at = 0;
+    let mut i = 0;
+    while i < counts.len() {
+        let end = at + 3 * wide(counts[i]);
+        mark_clause(sat, uses, &lits[at..end], i);
+        at = end;
+        i += 1;
+    }
+}
