@@ -1,7 +1,7 @@
 -- What a caller of the queue needs besides the contracts: a queue with no nodes, nodes put in one after another, and that the order by cost and then by code is one that the queue is for. Assumes nothing.
-use mathlib.Core.Path.{_≡_, refl, sym, _∙_}
+use mathlib.Core.Path.{refl, sym, _∙_}
 use mathlib.Core.List.{List, [], _∷_, _++_}
-use Prim.Native.Nat.{ℕ, _+_, _≤_}
+use Prim.Native.Nat.{ℕ, _≤_}
 use native.Mathlib.Omega.{arith}
 use lib.ListN.{length, length-map}
 use Rattle.model.specs.Lists.{All}
@@ -9,7 +9,6 @@ use Rattle.model.specs.Sheet.{Plant, decisionSizes}
 use Rattle.model.specs.Assignment.{Assignment}
 use Rattle.model.specs.Order.{Order, orderOf}
 use Rattle.model.specs.Listing.{enqueue, enqueueAll}
-use Rattle.theory.specs.Nodes.{sumOf}
 use Rattle.theory.specs.Plant.{Sized}
 use Rattle.theory.proofs.Lists.{all-map, all-image, sum-join}
 use Rattle.theory.proofs.Order.{cost-lawful}

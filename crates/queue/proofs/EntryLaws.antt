@@ -1,15 +1,15 @@
 -- An entry tells its node: the mask's top bits stand in the first word, and the code of the best state keeps the node's values where the widened mask is set. Assumes nothing.
-use mathlib.Core.Path.{_≡_, refl, sym, ap, _∙_}
+use mathlib.Core.Path.{_≡_, sym, ap, _∙_}
 use mathlib.Core.Option.{none, some}
 use mathlib.Core.List.{List, [], _∷_, _++_, map}
-use Prim.Native.Nat.{ℕ, zero, suc, _+_, _-_, _*_, _%_, _^_, _≤_, _<_}
+use Prim.Native.Nat.{ℕ, zero, suc, _+_, _-_, _*_, _%_, _^_, _≤_}
 use native.Mathlib.Omega.{arith}
 use native.Mathlib.Nat.{mod-eq-of-lt, mul-mod-left, mul-assoc}
 use lib.Bits.{bitAnd, and-zero-l, and-zero-r, and-mask, and-block}
 use lib.ListN.{length, replicate, length-map}
 use lib.Pow.{pow-add}
 use Rattle.model.specs.Digits.{number}
-use Rattle.model.specs.Assignment.{Assignment, Fits, Valid, Agree, bit, nibble, maskOf, valuesOf, full, code, assignmentOf}
+use Rattle.model.specs.Assignment.{Assignment, Valid, Agree, bit, nibble, maskOf, valuesOf, full, assignmentOf}
 use Rattle.model.specs.Order.{Order, best}
 use Rattle.theory.specs.Digits.{Below, horner}
 use Rattle.theory.specs.Words.{Words, fifteen, wideOf}
@@ -28,7 +28,7 @@ mask-low n short =
     let long : length (map bit n) ≡ length n = length-map n bit in
     let parts : 2 ^ (64 - length (map bit n)) ≡ 2 ^ (16 - length n) * 2 ^ 48 = ap (λ (i : ℕ). 2 ^ i) (omega arith) ∙ pow-add 2 (16 - length n) 48 in
     let whole : maskOf n ≡ horner 2 0 (map bit n) * 2 ^ (16 - length n) * 2 ^ 48 =
-        omega (arith, horner-number 2 64 0 (map bit n) (omega arith)) ∙ ap (λ (i : ℕ). horner 2 0 (map bit n) * i) parts ∙ sym (mul-assoc (horner 2 0 (map bit n)) (2 ^ (16 - length n)) (2 ^ 48)) in
+    omega (arith, horner-number 2 64 0 (map bit n) (omega arith)) ∙ ap (λ (i : ℕ). horner 2 0 (map bit n) * i) parts ∙ sym (mul-assoc (horner 2 0 (map bit n)) (2 ^ (16 - length n)) (2 ^ 48)) in
     rw whole (mul-mod-left (horner 2 0 (map bit n) * 2 ^ (16 - length n)) (2 ^ 48))
 
 -- ---- the values

@@ -3,7 +3,7 @@ use mathlib.Core.Path.{_≡_, refl, sym, ap, _∙_}
 use mathlib.Core.Logic.{inl, inr}
 use mathlib.Core.Bool.{Bool, true, false, not, false≢true}
 use mathlib.Core.List.{List, [], _∷_, map}
-use Prim.Native.Nat.{ℕ, _+_, _-_, _*_, _≤_, _<_}
+use Prim.Native.Nat.{ℕ, _+_, _-_, _*_, _≤_}
 use native.Mathlib.Omega.{arith}
 use lib.ListN.{length, length-map}
 use Rattle.model.specs.Lists.{Mem, All, keepIf, keep}
@@ -92,7 +92,7 @@ module _ (ss : List ℕ) (o : Order) (c : Assignment) (suits : Suits ss o) (long
     pub holds-sieve : (count : ℕ) (new : List ℕ) → 2 * count ≤ length new → Ready count new → Same (keep (spared c) (entries n old)) (entries count new) → Holds o count new (leaveOff (c ∷ []) queue)
     holds-sieve count new space ready s =
         let same : Same (map (entryOf o) (leaveOff (c ∷ []) queue)) (entries count new) =
-            λ w. ap (sumOf w) (spared-nodes queue valid) ∙ keep-same (spared c) (map (entryOf o) queue) (entries n old) (h .same) w ∙ s w in
+        λ w. ap (sumOf w) (spared-nodes queue valid) ∙ keep-same (spared c) (map (entryOf o) queue) (entries n old) (h .same) w ∙ s w in
         record {
           ready = ready;
           same = same;

@@ -1,4 +1,4 @@
--- What a slice of words holds: the model's queue. Of `Ready` a caller knows only that it is part of `Holds`. Assumes nothing: these are definitions.
+-- What a slice of words holds: the model's queue. How the entries stand, `Ready`, is no caller's concern. Assumes nothing: these are definitions.
 use mathlib.Core.Path.{_≡_}
 use mathlib.Core.List.{List, map}
 use Prim.Native.Nat.{ℕ}
@@ -9,7 +9,7 @@ use Rattle.queue.specs.Order.{entryOf}
 use Rattle.queue.specs.Entries.{pairs, entries, Same}
 use Rattle.queue.specs.Inside.{HeapFrom}
 
--- the first n entries of a slice stand so that `push` and `pop` can find the first
+-- the first n entries of a slice stand as `push` and `pop` want them
 unfoldable pub Ready : ℕ → List ℕ → Type 0
 Ready n words = HeapFrom 0 n (pairs words)
 

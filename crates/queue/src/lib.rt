@@ -16,7 +16,7 @@ ghost use Rattle.theory.specs.Words.{Words};
 ghost use Rattle.queue.specs.Order.{entryOf, comesBefore, Keyed, Suits};
 ghost use Rattle.queue.specs.Entries.{pairs};
 ghost use Rattle.queue.specs.Inside.{HeapFrom, LesserChild, Sifted, Rebuilt, Stays};
-ghost use Rattle.queue.specs.Queue.{Ready, Holds};
+ghost use Rattle.queue.specs.Queue.{Holds};
 
 // The two words of an entry.
 pub struct Entry {
@@ -94,8 +94,7 @@ fn lesser_child(queue: &[u64], n: usize, i: usize) -> usize
 fn sift_down(queue: &mut [u64], n: usize, from: usize, a: u64, b: u64)
     requires { do ⌜ 2 * n ≤ (← ⟦queue.len()⟧) ⌝ }
     requires { ⌜ from < n ⌝ }
-    requires { ⌜ HeapFrom (from + 1) n (pairs (now queue)) ⌝ }
-    ensures { λ _. ⌜ Sifted n from a b (pairs (now (queue .entry))) (pairs (now (queue .exit))) ⌝ }
+    ensures { λ _. ⌜ (HeapFrom (from + 1) n (pairs (now (queue .entry))) → Sifted n from a b (pairs (now (queue .entry))) (pairs (now (queue .exit)))) ⌝ }
 {
     let mut i = from;
     while 2 * i + 1 < n {
@@ -113,7 +112,6 @@ fn sift_down(queue: &mut [u64], n: usize, from: usize, a: u64, b: u64)
 // Puts the node with the entry (a, b) into a queue of n nodes.
 pub fn push(queue: &mut [u64], n: usize, a: u64, b: u64)
     requires { do ⌜ 2 * n + 2 ≤ (← ⟦queue.len()⟧) ⌝ }
-    requires { ⌜ Ready n (now queue) ⌝ }
     ensures { λ _. ⌜ ((o : Order) (nodes : List Assignment) (node : Assignment) → Holds o n (now (queue .entry)) nodes → (a, b) ≡ entryOf o node → Holds o (n + 1) (now (queue .exit)) (enqueue o node nodes)) ⌝ }
 {
     let mut i = n;
@@ -133,7 +131,6 @@ pub fn push(queue: &mut [u64], n: usize, a: u64, b: u64)
 pub fn pop(queue: &mut [u64], n: usize) -> Entry
     requires { do ⌜ 2 * n ≤ (← ⟦queue.len()⟧) ⌝ }
     requires { ⌜ 0 < n ⌝ }
-    requires { ⌜ Ready n (now queue) ⌝ }
     ensures { λ r. ⌜ ((o : Order) (node : Assignment) (rest : List Assignment) → Keyed o → Ordered o (node ∷ rest) → Holds o n (now (queue .entry)) (node ∷ rest) → ((r .a, r .b) ≡ entryOf o node) × Holds o (n - 1) (now (queue .exit)) rest) ⌝ }
 {
     let first = entry_at(queue, 0);
@@ -162,7 +159,8 @@ fn stays(a: u64, b: u64, conflict_values: u64, conflict_wide: u64) -> bool
     ensures { λ r. ⌜ Stays «conflict_wide» «conflict_values» (a, b) r ⌝ }
 {
     let n = node_of(a, b);
-    !words::manifests(n.values, words::widened(n.mask), conflict_values, conflict_wide)
+    let wide = words::widened(n.mask);
+    !words::manifests(n.values, wide, conflict_values, conflict_wide)
 }
 
 // Removes the nodes that manifest the conflict with these words from a queue of n nodes, and returns how many are left.

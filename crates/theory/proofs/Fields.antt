@@ -1,15 +1,13 @@
 -- Laws of bit fields, over the width: a field's bound, a field in two parts, and a field by a division of the bytes it lies in. Assumes nothing.
-use mathlib.Core.Path.{_≡_, refl, sym, ap, _∙_}
+use mathlib.Core.Path.{_≡_, refl, sym}
 use mathlib.Core.List.{List, [], _∷_}
-use mathlib.Core.Bool.{Bool, true, false}
 use Prim.Native.Nat.{ℕ, zero, suc, _+_, _-_, _*_, _/_, _%_, _^_, _≤_, _<_}
 use native.Mathlib.Omega.{arith}
-use native.Mathlib.Nat.{mul-assoc, add-mul, zero-mul, suc-add, pow-zero, pow-succ', zero-add, add-zero, mul-one, mod-one, mod-lt, mul-add-div-right, mul-add-mod-self-right}
+use native.Mathlib.Nat.{mul-assoc, add-mul, zero-mul, suc-add, pow-succ', zero-add, add-zero, mod-one, mul-add-div-right, mul-add-mod-self-right}
 use native.Mathlib.Decide.{decLt}
 use lib.Arith.{mod-mul}
 use lib.Pow.{pow-pos, pow-add, high, shr-shr}
 use lib.ListN.{length, getD, drop, drop-of-length-le, List·getD-eq-default}
-use lib.Dec.{eqb}
 use Rattle.model.specs.Digits.{number, digits}
 use Rattle.model.specs.Sheet.{bitAt, bitsAt}
 use Rattle.theory.specs.Digits.{Below}
@@ -57,9 +55,9 @@ pub word-step : (sheet : List ℕ) (n i : ℕ) → number 256 (suc n) (drop i sh
 word-step sheet n i = elim (decLt i (length sheet)) [
   | yes h ↦ number-split 256 (suc n) i n sheet refl h
   | no h ↦
-    let past : length sheet ≤ i = omega arith in
-    let after : length sheet ≤ i + 1 = omega arith in
-    rw (drop-of-length-le sheet past, drop-of-length-le sheet after, List·getD-eq-default sheet 0 past, number-nil 256 (suc n), number-nil 256 n) (omega (arith, zero-mul (256 ^ n)))
+      let past : length sheet ≤ i = omega arith in
+      let after : length sheet ≤ i + 1 = omega arith in
+      rw (drop-of-length-le sheet past, drop-of-length-le sheet after, List·getD-eq-default sheet 0 past, number-nil 256 (suc n), number-nil 256 n) (omega (arith, zero-mul (256 ^ n)))
 ]
 
 -- a power of 256 by a power of 2
@@ -75,20 +73,20 @@ unfolding bitAt
 bit-word sheet b zero i j k e = absurd (omega arith)
 bit-word sheet b (suc n) i j k e = elim (decLt j 8) [
   | yes h ↦
-    let m : ℕ = 7 - j in
-    let byte : (8 * i + j) / 8 ≡ i = omega arith in
-    let bit : (8 * i + j) % 8 ≡ j = omega arith in
-    let f : k ≡ 8 * n + m = omega arith in
-    let low : number 256 n (drop (i + 1) sheet) < 2 ^ (8 * n) = rw (← bytes-bits n) (number-below 256 n (drop (i + 1) sheet) (omega arith) (below-drop 256 (i + 1) sheet b)) in
-    rw (byte, bit, digit-at 2 8 j m (getD sheet i 0) (omega arith), word-step sheet n i, f, ← shr-shr (getD sheet i 0 * 256 ^ n + number 256 n (drop (i + 1) sheet)) (8 * n) m, bytes-bits n, high (getD sheet i 0) (8 * n) low)
+      let m : ℕ = 7 - j in
+      let byte : (8 * i + j) / 8 ≡ i = omega arith in
+      let bit : (8 * i + j) % 8 ≡ j = omega arith in
+      let f : k ≡ 8 * n + m = omega arith in
+      let low : number 256 n (drop (i + 1) sheet) < 2 ^ (8 * n) = rw (← bytes-bits n) (number-below 256 n (drop (i + 1) sheet) (omega arith) (below-drop 256 (i + 1) sheet b)) in
+      rw (byte, bit, digit-at 2 8 j m (getD sheet i 0) (omega arith), word-step sheet n i, f, ← shr-shr (getD sheet i 0 * 256 ^ n + number 256 n (drop (i + 1) sheet)) (8 * n) m, bytes-bits n, high (getD sheet i 0) (8 * n) low)
   | no h ↦
-    let l : ℕ = j - 8 in
-    let p : 8 * i + j ≡ 8 * (i + 1) + l = omega arith in
-    let f : 8 * n ≡ l + 1 + k = omega arith in
-    let g : 256 ^ n ≡ 2 ^ l * 2 * 2 ^ k = rw (bytes-bits n, f, pow-add 2 (l + 1) k, pow-add 2 l 1) in
-    let x : getD sheet i 0 * (2 ^ l * 2 * 2 ^ k) ≡ getD sheet i 0 * 2 ^ l * 2 * 2 ^ k = simp mul-assoc in
-    let r : number 256 n (drop (i + 1) sheet) / 2 ^ k % 2 ≡ bitAt sheet (8 * (i + 1) + l) = sym (bit-word sheet b n (i + 1) l k (omega arith)) in
-    rw (p, word-step sheet n i, g, x, mul-add-div-right (pow-pos k) (getD sheet i 0 * 2 ^ l * 2) (number 256 n (drop (i + 1) sheet)), mul-add-mod-self-right (getD sheet i 0 * 2 ^ l) 2 (number 256 n (drop (i + 1) sheet) / 2 ^ k)) (sym r)
+      let l : ℕ = j - 8 in
+      let p : 8 * i + j ≡ 8 * (i + 1) + l = omega arith in
+      let f : 8 * n ≡ l + 1 + k = omega arith in
+      let g : 256 ^ n ≡ 2 ^ l * 2 * 2 ^ k = rw (bytes-bits n, f, pow-add 2 (l + 1) k, pow-add 2 l 1) in
+      let x : getD sheet i 0 * (2 ^ l * 2 * 2 ^ k) ≡ getD sheet i 0 * 2 ^ l * 2 * 2 ^ k = simp mul-assoc in
+      let r : number 256 n (drop (i + 1) sheet) / 2 ^ k % 2 ≡ bitAt sheet (8 * (i + 1) + l) = sym (bit-word sheet b n (i + 1) l k (omega arith)) in
+      rw (p, word-step sheet n i, g, x, mul-add-div-right (pow-pos k) (getD sheet i 0 * 2 ^ l * 2) (number 256 n (drop (i + 1) sheet)), mul-add-mod-self-right (getD sheet i 0 * 2 ^ l) 2 (number 256 n (drop (i + 1) sheet) / 2 ^ k)) (sym r)
 ]
 
 -- a field that lies in the n bytes from byte i on, with o bits before it and k bits after it in them

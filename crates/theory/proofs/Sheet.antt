@@ -1,15 +1,15 @@
 -- What an accepted reading says of the plant it read. Each reading that gives something is taken apart into the readings and rules it went through. Assumes nothing.
-use mathlib.Core.Path.{_≡_, refl, sym, ap, _∙_}
+use mathlib.Core.Path.{_≡_, refl, ap}
 use mathlib.Core.List.{List, [], _∷_, _++_, map}
 use mathlib.Core.Bool.{Bool, true, false, _&&_}
-use Prim.Native.Nat.{ℕ, zero, suc, _+_, _-_, _*_, _/_, _%_, _^_, _≤_, _<_}
+use Prim.Native.Nat.{ℕ, zero, suc, _+_, _-_, _*_, _%_, _^_, _≤_, _<_}
 use native.Mathlib.Omega.{arith}
 use lib.ListN.{length, getD}
 use lib.Dec.{ltb, leb, eqb}
 use borrow.Author.Tests.{ltb-true, leb-true, eqb-true}
 use Rattle.model.specs.Lists.{All}
 use Rattle.model.specs.Digits.{number}
-use Rattle.model.specs.Sheet.{Literal, Plant, sizes, bitAt, bitsAt, Read, refused, got, then, many, field, Edition, edition1, decisionsAllowed, readDecision, readState, readLiteral, readClause, readFiller, readEnd, readBody, readSheet}
+use Rattle.model.specs.Sheet.{Literal, Plant, bitsAt, Read, refused, got, then, many, field, Edition, edition1, decisionsAllowed, readDecision, readState, readLiteral, readClause, readFiller, readEnd, readBody, readSheet}
 use Rattle.theory.specs.Plant.{Sized, Present, Accepted}
 use Rattle.theory.proofs.Lists.{all-map}
 use Rattle.theory.proofs.Fields.{field-below}
@@ -127,15 +127,19 @@ module _ (e : Edition) (sheet : List ℕ) where
       let (clauses, at, f, h) = then-got (many (readClause e sheet (map length rows ++ states)) c at) _ p end h in
       let (clauses-are, all-clauses) = many-all (λ c. (length c ≤ 15) × All (Present (map length rows ++ states)) c) (readClause e sheet (map length rows ++ states)) (clause (map length rows ++ states)) c _ clauses at f in
       let (is-p, ends) = end-got (record { costs = rows; states = states; clauses = clauses }) at p end h in
-      rw (← is-p) (record {
-        decisions = omega (arith, rows-are);
-        states = omega (arith, states-are);
-        clauses = omega (arith, clauses-are);
-        decision-sizes = all-map (λ r h. h .0) rows all-rows;
-        state-sizes = all-states;
-        costs = all-map (λ r h. h .1) rows all-rows;
-        literals = all-clauses;
-      }, rows-are, ends)
+      rw (← is-p) (
+        record {
+          decisions = omega (arith, rows-are);
+          states = omega (arith, states-are);
+          clauses = omega (arith, clauses-are);
+          decision-sizes = all-map (λ r h. h .0) rows all-rows;
+          state-sizes = all-states;
+          costs = all-map (λ r h. h .1) rows all-rows;
+          literals = all-clauses;
+        },
+        rows-are,
+        ends,
+      )
 
   -- what the whole sheet says of its plant: the widths, the rules of the counts, and those of the literals
   pub accepted-any : (p : Plant) (end : ℕ) → readSheet e sheet ≡ got p end → Accepted e p × (decisionsAllowed e (length (p .costs)) ≡ true) × (end ≡ 8 * length sheet)

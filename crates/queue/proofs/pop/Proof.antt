@@ -25,10 +25,7 @@ sub-sift-down : tie.Need-sub-sift-down
 sub-sift-down c = search needs
 
 sift-down-requires : tie.Need-sift-down-requires
-unfolding Ready
-sift-down-requires c κs =
-    let s = c .before .before .before .before .before .before .before in
-    (omega arith, (omega arith, heap-part 0 (s .args .n) 1 (s .args .n - 1) (pairs (s .args .queue .now)) (omega arith) (omega arith) (s .pre .1 .1)))
+sift-down-requires c κs = search needs
 
 same-length : tie.Need-same-length
 same-length c = search needs
@@ -41,9 +38,9 @@ returns c o node rest keyed ordered h =
     let xs = pairs (s .args .queue .now) in
     let e = c .before .before .before .before .before .before .before .entry-at in
     let last = c .before .before .before .before .entry-at2 in
-    let d = c .before .before .sift-down in
-    holds-pop keyed ordered h (rw (e .ensures) at (all-first n xs (s .pre .1 .1))) _ (d .ensures .heap)
-    (λ w. (rw (last .ensures, e .ensures) at (first-out xs n (omega arith) (room (s .args .queue .now) n (s .pre .0)) w)) ∙ ap (λ (m : ℕ). w (e .result .a, e .result .b) + m) (d .ensures .same w))
+    let d = c .before .before .sift-down .ensures (heap-part 0 n 1 (n - 1) xs (omega arith) (omega arith) (h .ready)) in
+    holds-pop keyed ordered h (rw (e .ensures) at (all-first n xs (h .ready))) _ (d .heap)
+    (λ w. (rw (last .ensures, e .ensures) at (first-out xs n (omega arith) (room (s .args .queue .now) n (s .pre .0)) w)) ∙ ap (λ (m : ℕ). w (e .result .a, e .result .b) + m) (d .same w))
 
 same-length-2 : tie.Need-same-length-2
 same-length-2 c = search needs
@@ -55,7 +52,7 @@ returns-2 c o node rest keyed ordered h =
     let n = s .args .n in
     let xs = pairs (s .args .queue .now) in
     let e = c .before .entry-at in
-    holds-pop keyed ordered h (rw (e .ensures) at (all-first n xs (s .pre .1 .1))) _ (heap-part 0 n 0 (n - 1) xs (omega arith) (omega arith) (s .pre .1 .1))
+    holds-pop keyed ordered h (rw (e .ensures) at (all-first n xs (h .ready))) _ (heap-part 0 n 0 (n - 1) xs (omega arith) (omega arith) (h .ready))
     (rw (e .ensures) at (only-out xs n (omega arith) (omega arith) (room (s .args .queue .now) n (s .pre .0))))
 
 pub pop-spec : {M : Type 1} → statement M

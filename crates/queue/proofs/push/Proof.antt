@@ -1,7 +1,7 @@
 -- `queue::push` meets its contract. The invariant: with (a, b) at the open place i, the queue is in order but for i, and is a permutation of the queue at the start with (a, b) in front. The measure is i. Assumes nothing.
 use mathlib.Core.Logic.{⊎-elim}
 use mathlib.Core.Path.{_≡_, refl, sym, _∙_}
-use Prim.Native.Nat.{_+_, _-_, _/_}
+use Prim.Native.Nat.{_+_, _-_, _/_, _≤_}
 use native.Mathlib.Omega.{arith}
 use lib.ListN.{length}
 use borrow.Author.Tests.{not-true, not-false}
@@ -17,7 +17,7 @@ use Rattle.queue.proofs.push.Statement.{statement}
 use Rattle.queue.proofs.push.Tie as tie
 
 abbrev Inv-loop : tie.InvT-loop
-Inv-loop queue₀ n a b i₀ queue i = (length queue ≡ length queue₀) × Rising n (a, b) (pairs queue₀) (pairs queue) i
+Inv-loop queue₀ n a b i₀ queue i = (length queue ≡ length queue₀) × (i ≤ n) × (Ready n queue₀ → Rising n (a, b) (pairs queue₀) (pairs queue) i)
 
 abbrev μ-loop : tie.MeasureT-loop
 μ-loop queue₀ n a b i₀ queue i = i
@@ -26,7 +26,7 @@ loop-holds : tie.Need-loop-holds Inv-loop μ-loop
 unfolding Ready
 loop-holds c =
     let s = c .before in
-    (refl, rise-start (s .args .n) (s .args .a, s .args .b) (pairs (s .args .queue .now)) (omega (arith, room (s .args .queue .now) (s .args .n + 1) (omega arith))) (s .pre .1))
+    (refl, omega arith, rise-start (s .args .n) (s .args .a, s .args .b) (pairs (s .args .queue .now)) (omega (arith, room (s .args .queue .now) (s .args .n + 1) (omega arith))))
 
 sub-p : tie.Need-sub-p Inv-loop μ-loop
 sub-p c = omega arith
@@ -52,7 +52,8 @@ loop-again c =
     let v : Item = (s .args .a, s .args .b) in
     let due = due-by refl (e .ensures) (due-before v (e .result .a, e .result .b) (sym (t .ensures) ∙ not-false (t .result) (c .before .before .before .before .if1 .left))) in (
       c .before .before .put .kept .0 ∙ l .inv .0,
-      rw (c .before .before .put .ensures, ← e .ensures) (rise-step (l .inv .1) ((l .i - 1) / 2) (omega arith) due),
+      omega arith,
+      λ h. rw (c .before .before .put .ensures, ← e .ensures) (rise-step (l .inv .2 h) ((l .i - 1) / 2) (omega arith) due),
     )
 
 put-requires-2 : tie.Need-put-requires-2 Inv-loop μ-loop
@@ -67,10 +68,10 @@ returns c o nodes node h is =
     let l = c .before .before .before .before .before .loop in
     holds-push o _ _ _ nodes node _ h is
     (rw (c .before .before .put2 .ensures) (⊎-elim
-        (λ w. rise-top (l .inv .1) (w .left))
-        (λ w. rise-stop (l .inv .1) ((l .i - 1) / 2) (omega arith) (due-by (w .2 .ensures) refl (sym (w .3 .ensures) ∙ not-true (w .3 .result) (w .4 .taken))))
-        (c .before .before .before .before .loop-test .came)))
-    (λ w. rw (c .before .before .put2 .ensures) (l .inv .1 .same w))
+    (λ w. rise-top (l .inv .2 (h .ready)) (w .left))
+    (λ w. rise-stop (l .inv .2 (h .ready)) ((l .i - 1) / 2) (omega arith) (due-by (w .2 .ensures) refl (sym (w .3 .ensures) ∙ not-true (w .3 .result) (w .4 .taken))))
+    (c .before .before .before .before .loop-test .came)))
+    (λ w. rw (c .before .before .put2 .ensures) (l .inv .2 (h .ready) .same w))
 
 pub push-spec : {M : Type 1} → statement M
 push-spec =

@@ -26,10 +26,7 @@ entry-at-requires : tie.Need-entry-at-requires Inv-loop μ-loop
 entry-at-requires c κs = omega arith
 
 sift-down-requires : tie.Need-sift-down-requires Inv-loop μ-loop
-sift-down-requires c κs =
-    let l = c .before .before .before .before .loop in
-    let same : l .i - 1 + 1 ≡ l .i = omega arith in
-    (omega arith, (omega arith, rw same (l .inv .2)))
+sift-down-requires c κs = omega arith
 
 loop-less : tie.Need-loop-less Inv-loop μ-loop
 loop-less c = omega arith
@@ -38,11 +35,12 @@ loop-again : tie.Need-loop-again Inv-loop μ-loop
 loop-again c =
     let l = c .before .before .before .before .before .before .before .loop in
     let e = c .before .before .before .before .entry-at in
-    let d = c .before .before .sift-down in (
-      d .kept .0 ∙ l .inv .0,
+    let same : l .i - 1 + 1 ≡ l .i = omega arith in
+    let d = c .before .before .sift-down .ensures (rw same (l .inv .2)) in (
+      c .before .before .sift-down .kept .0 ∙ l .inv .0,
       omega arith,
-      d .ensures .heap,
-      λ w. l .inv .3 w ∙ rw (← e .ensures, set-getD (pairs (l .queue)) (l .i - 1) (0, 0)) at (d .ensures .same w),
+      d .heap,
+      λ w. l .inv .3 w ∙ rw (← e .ensures, set-getD (pairs (l .queue)) (l .i - 1) (0, 0)) at (d .same w),
     )
 
 same-length : tie.Need-same-length Inv-loop μ-loop

@@ -63,18 +63,18 @@ loop-again c =
       omega arith,
       omega arith,
       λ test answers.
-        let inv = l .inv .3 test answers in
-        let same : (e .result .a, e .result .b) ≡ nth old (l .i) = sym (e .ensures) ∙ inv .rest (l .i) (omega arith) in
-        rw (w .5, w .6, w .2 .ensures, same) (sieve-keep inv (l .inv .2) within space (sym (answers (l .i) more (t .result) (rw same at (t .ensures))) ∙ w .0 .taken)),
+          let inv = l .inv .3 test answers in
+          let same : (e .result .a, e .result .b) ≡ nth old (l .i) = sym (e .ensures) ∙ inv .rest (l .i) (omega arith) in
+          rw (w .5, w .6, w .2 .ensures, same) (sieve-keep inv (l .inv .2) within space (sym (answers (l .i) more (t .result) (rw same at (t .ensures))) ∙ w .0 .taken)),
     ))
     (λ w. (
       ap length (w .1) ∙ l .inv .0,
       omega arith,
       omega arith,
       λ test answers.
-        let inv = l .inv .3 test answers in
-        let same : (e .result .a, e .result .b) ≡ nth old (l .i) = sym (e .ensures) ∙ inv .rest (l .i) (omega arith) in
-        rw (w .1, w .2) (sieve-drop inv (l .inv .2) within (sym (answers (l .i) more (t .result) (rw same at (t .ensures))) ∙ w .0 .left)),
+          let inv = l .inv .3 test answers in
+          let same : (e .result .a, e .result .b) ≡ nth old (l .i) = sym (e .ensures) ∙ inv .rest (l .i) (omega arith) in
+          rw (w .1, w .2) (sieve-drop inv (l .inv .2) within (sym (answers (l .i) more (t .result) (rw same at (t .ensures))) ∙ w .0 .left)),
     ))
     (c .if1 .came)
 
@@ -89,16 +89,16 @@ unfolding Ready entries
 returns c = (
   omega arith,
   λ ss o nodes conflict suits valid words long h.
-    let l = c .before .before .before .before .before .loop in
-    let s = c .before .before .before .before .before .before .before .before in
-    let wide = c .before .before .before .before .before .before .widened in
-    let r = c .before .before .rebuild in
-    let n = s .args .n in
-    let old = s .args .queue .now in
-    let all : l .i ≡ n = omega arith in
-    let answers = stays-spared ss o conflict suits long n old nodes h valid (wide .result) (s .args .values) (record { mask = s .args .mask; words = words; wide-is = wide .ensures }) (s .pre) in
-    let front : take (l .count) (pairs (l .queue)) ≡ keep (spared conflict) (take n (pairs old)) = rw all at (l .inv .3 (spared conflict) answers .kept) in
-    holds-sieve ss o conflict suits long n old nodes h valid (l .count) (r .last .0) (omega arith) (r .ensures .heap) (λ w. rw front at (r .ensures .same w)),
+      let l = c .before .before .before .before .before .loop in
+      let s = c .before .before .before .before .before .before .before .before in
+      let wide = c .before .before .before .before .before .before .widened in
+      let r = c .before .before .rebuild in
+      let n = s .args .n in
+      let old = s .args .queue .now in
+      let all : l .i ≡ n = omega arith in
+      let answers = stays-spared ss o conflict suits long n old nodes h valid (wide .result) (s .args .values) (record { mask = s .args .mask; words = words; wide-is = wide .ensures }) (s .pre) in
+      let front : take (l .count) (pairs (l .queue)) ≡ keep (spared conflict) (take n (pairs old)) = rw all at (l .inv .3 (spared conflict) answers .kept) in
+      holds-sieve ss o conflict suits long n old nodes h valid (l .count) (r .last .0) (omega arith) (r .ensures .heap) (λ w. rw front at (r .ensures .same w)),
 )
 
 pub sieve-spec : {M : Type 1} → statement M

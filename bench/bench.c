@@ -1,0 +1,468 @@
+/* Times ours, plain and same against each other: bench CORPUS_FOLDER.
+ *
+ * Each figure is a median over rounds, and each ratio the median of the ratios
+ * within a round; in every round each implementation runs in turn, so that what
+ * disturbs the machine disturbs all alike. The lent buffers are filled with
+ * junk once and then lent again as the last run left them: they are never
+ * cleared, and the memory is warm. */
+#define _POSIX_C_SOURCE 199309L
+#include "implementations.h"
+#include "lent.h"
+
+#include <inttypes.h>
+#include <stdbool.h>
+#include <stdio.h>
+#include <stdlib.h>
+#include <string.h>
+#include <time.h>
+
+enum { ROUNDS_LEAST = 5, ROUNDS_MOST = 41, JOBS_MOST = 2 * IMPLEMENTATIONS };
+static const double BATCH = 0.4e-3; /* seconds that a sample shall take at least */
+static const double BUDGET = 0.1;   /* seconds for a job's samples, where it can be kept */
+
+static struct lent lent;
+static const char *folder;
+
+/* ---- jobs and their samples ---- */
+
+/* One call, of a test or, with k not 0, of a listing. */
+struct job {
+    const struct implementation *own;
+    struct bytes sheet;
+    struct settings settings;
+    size_t queue, store; /* in entries */
+    uint64_t mask, values;
+};
+
+static void run(const struct job *j)
+{
+    const struct bytes sheet = j->sheet;
+    uint32_t refusal;
+    if (j->settings.k) {
+        lent.codes_len = lent.costs_len = j->settings.k;
+        lent.queue_len = 2 * j->queue;
+        lent.store_len = 2 * j->store;
+        lent.result_len = RESULT_WORDS;
+        refusal = list_lent(j->own->list, sheet, &lent, j->settings);
+    } else {
+        refusal = j->own->test(sheet.at, sheet.length, j->mask, j->values, j->settings.limit,
+                               lent.result, 2);
+    }
+    if (refusal)
+        give_up("refused by", j->own->name);
+}
+
+static bool can_run(const struct job *j)
+{
+    return j->settings.k ? j->own->list != NULL : j->own->test != NULL;
+}
+
+/* Processor time of this process: others share the machine. */
+static double now(void)
+{
+    struct timespec t;
+    clock_gettime(CLOCK_PROCESS_CPUTIME_ID, &t);
+    return (double)t.tv_sec + 1e-9 * (double)t.tv_nsec;
+}
+
+/* Seconds for one call, over a batch of them. */
+static double sample(const struct job *j, unsigned batch)
+{
+    double start = now();
+    for (unsigned i = 0; i < batch; i++)
+        run(j);
+    return (now() - start) / batch;
+}
+
+/* A slow job takes part in the first rounds only; one that cannot run in none. */
+struct samples {
+    unsigned rounds[JOBS_MOST];
+    double seconds[JOBS_MOST][ROUNDS_MOST];
+};
+
+/* How many calls make a sample, and in how many rounds. */
+static unsigned plan(const struct job *j, unsigned *rounds)
+{
+    *rounds = 0;
+    if (!can_run(j))
+        return 0;
+    double once = sample(j, 1);
+    if (once < BATCH)
+        once = sample(j, 1); /* warm */
+    unsigned batch = once < BATCH ? (unsigned)(BATCH / once) + 1 : 1;
+    double fit = BUDGET / (batch * once);
+    *rounds = fit > ROUNDS_MOST ? ROUNDS_MOST : fit < ROUNDS_LEAST ? ROUNDS_LEAST : (unsigned)fit;
+    return batch;
+}
+
+/* Runs the jobs in turn, round after round, each round from the next job on. */
+static void take_samples(const struct job *jobs, unsigned count, struct samples *s)
+{
+    unsigned batch[JOBS_MOST];
+    for (unsigned i = 0; i < count; i++)
+        batch[i] = plan(&jobs[i], &s->rounds[i]);
+    for (unsigned r = 0; r < ROUNDS_MOST; r++)
+        for (unsigned n = 0; n < count; n++) {
+            unsigned i = (r + n) % count;
+            if (r < s->rounds[i])
+                s->seconds[i][r] = sample(&jobs[i], batch[i]);
+        }
+}
+
+static int compare_doubles(const void *a, const void *b)
+{
+    double x = *(const double *)a, y = *(const double *)b;
+    return (x > y) - (x < y);
+}
+
+static double median(const double *values, unsigned count)
+{
+    double sorted[ROUNDS_MOST];
+    if (count == 0)
+        return 0;
+    memcpy(sorted, values, count * sizeof *sorted);
+    qsort(sorted, count, sizeof *sorted, compare_doubles);
+    return (sorted[count / 2] + sorted[(count - 1) / 2]) / 2;
+}
+
+/* The samples of one implementation, perhaps less others of the same round. */
+struct series {
+    unsigned count;
+    double values[ROUNDS_MOST];
+};
+
+/* The median of the ratios within a round: a slower round slows both. */
+static double ratio(const struct series *above, const struct series *below)
+{
+    double ratios[ROUNDS_MOST];
+    unsigned count = above->count < below->count ? above->count : below->count;
+    for (unsigned r = 0; r < count; r++)
+        ratios[r] = above->values[r] / below->values[r];
+    return median(ratios, count);
+}
+
+/* What a row shows; zeros where ours cannot run. */
+struct figures {
+    double value[IMPLEMENTATIONS], plain_ours, ours_same, plain_same;
+};
+
+/* Over the jobs from `first` on, one for each implementation; with `less` not
+ * negative, less those from `less` on. */
+static struct figures figures_of(const struct samples *s, int first, int less, double scale)
+{
+    struct series series[IMPLEMENTATIONS];
+    struct figures f;
+    for (int i = 0; i < IMPLEMENTATIONS; i++) {
+        unsigned count = s->rounds[first + i];
+        if (less >= 0 && s->rounds[less + i] < count)
+            count = s->rounds[less + i];
+        for (unsigned r = 0; r < count; r++)
+            series[i].values[r] =
+                s->seconds[first + i][r] - (less < 0 ? 0 : s->seconds[less + i][r]);
+        series[i].count = count;
+        f.value[i] = scale * median(series[i].values, count);
+    }
+    f.plain_ours = ratio(&series[PLAIN], &series[OURS]);
+    f.ours_same = ratio(&series[OURS], &series[SAME]);
+    f.plain_same = ratio(&series[PLAIN], &series[SAME]);
+    return f;
+}
+
+/* The same job for each implementation. */
+static void for_each(struct job *jobs, struct job job)
+{
+    for (int i = 0; i < IMPLEMENTATIONS; i++) {
+        jobs[i] = job;
+        jobs[i].own = &implementations[i];
+    }
+}
+
+/* ---- tables ---- */
+
+static void heading(const char *title, const char *label, const char *unit)
+{
+    printf("\n%s\n%-34s %10s %10s %10s   %11s %11s %11s\n", title, label, "plain", "same", "ours",
+           "plain/ours", "ours/same", "plain/same");
+    printf("%-34s %10s %10s %10s\n", "", unit, unit, unit);
+}
+
+static void cell(int width, double value, bool known)
+{
+    if (known)
+        printf(" %*.*f", width, value < 100 ? 2 : 0, value);
+    else
+        printf(" %*s", width, "-");
+}
+
+static void row(const char *label, const struct figures *f)
+{
+    bool ours = f->value[OURS] != 0;
+    printf("%-34s", label);
+    for (int i = 0; i < IMPLEMENTATIONS; i++)
+        cell(10, f->value[i], i != OURS || ours);
+    printf("  ");
+    cell(11, f->plain_ours, ours);
+    cell(11, f->ours_same, ours);
+    cell(11, f->plain_same, true);
+    printf("\n");
+    fflush(stdout);
+}
+
+static struct bytes sheet_named(const char *name)
+{
+    char path[4096];
+    snprintf(path, sizeof path, "%s/%s.sheet", folder, name);
+    return file_bytes(path);
+}
+
+/* ---- (a) the test ---- */
+
+/* The first conflict that a listing learns, into the job. */
+static void take_first_conflict(struct job *job)
+{
+    struct job listing = {&implementations[SAME], job->sheet, {16, 0, 1000000}, 4096, 64, 0, 0};
+    run(&listing);
+    job->mask = lent.store[0];
+    job->values = lent.store[1];
+}
+
+struct tested {
+    const char *name;
+    bool of_conflict; /* its first conflict; otherwise the empty assignment */
+    uint32_t limit;
+};
+
+static const struct tested TESTED[] = {
+    {"driveline-08b", true, 100000}, {"driveline-10b", true, 100000},
+    {"driveline-12b", true, 100000}, {"driveline-14b", true, 100000},
+    {"driveline-16c", true, 100000}, {"test-96", false, 100000},
+    {"test-512", false, 20000},
+};
+enum { TESTED_COUNT = sizeof TESTED / sizeof *TESTED };
+
+/* A test call, less the same call with limit 0, over its trials; and the call
+ * with limit 0. In nanoseconds and microseconds. */
+static void time_test(const struct tested *t, char *label, struct figures *per_trial,
+                      struct figures *reading)
+{
+    struct job jobs[JOBS_MOST], job = {NULL, sheet_named(t->name), {0, 0, t->limit}, 0, 0, 0, 0};
+    struct samples s;
+    if (t->of_conflict)
+        take_first_conflict(&job);
+    for_each(jobs, job);
+    run(&jobs[PLAIN]);
+    uint32_t trials = lent.result[1];
+    snprintf(label, 64, "%s, %" PRIu32 " trials", t->name, trials);
+    job.settings.limit = 0;
+    for_each(jobs + IMPLEMENTATIONS, job);
+    take_samples(jobs, JOBS_MOST, &s);
+    *per_trial = figures_of(&s, 0, IMPLEMENTATIONS, 1e9 / trials);
+    *reading = figures_of(&s, IMPLEMENTATIONS, -1, 1e6);
+    free(job.sheet.at);
+}
+
+static void table_of_tests(void)
+{
+    char labels[TESTED_COUNT][64];
+    struct figures reading[TESTED_COUNT], per_trial;
+    heading("(a) The test: a trial", "plant", "ns");
+    for (int i = 0; i < TESTED_COUNT; i++) {
+        time_test(&TESTED[i], labels[i], &per_trial, &reading[i]);
+        row(labels[i], &per_trial);
+    }
+    heading("(a') A test call with limit 0: reading the sheet, preparing the test", "plant", "us");
+    for (int i = 0; i < TESTED_COUNT; i++)
+        row(TESTED[i].name, &reading[i]);
+}
+
+/* ---- (b) and (c), between two lengths of the list ---- */
+
+struct counts {
+    uint64_t removals, looks;
+};
+
+static struct counts count_run(struct job job, uint32_t k)
+{
+    static const struct implementation counted = {"counted", counted_list, NULL, NULL};
+    job.own = &counted;
+    job.settings.k = k;
+    counted_removals = counted_looks = 0;
+    run(&job);
+    return (struct counts){counted_removals, counted_looks};
+}
+
+/* Two runs that differ in k only; their difference, over its removals. */
+static struct figures time_removals(struct job job, uint32_t from, uint32_t to,
+                                    struct counts *between)
+{
+    struct job jobs[JOBS_MOST];
+    struct samples s;
+    struct counts less = count_run(job, from);
+    *between = count_run(job, to);
+    between->removals -= less.removals;
+    between->looks -= less.looks;
+    job.settings.k = to;
+    for_each(jobs, job);
+    job.settings.k = from;
+    for_each(jobs + IMPLEMENTATIONS, job);
+    take_samples(jobs, JOBS_MOST, &s);
+    return figures_of(&s, 0, IMPLEMENTATIONS, 1e9 / (double)between->removals);
+}
+
+struct queued {
+    const char *name;
+    size_t entries, first, last; /* lent; in the queue at `from` and at `to` */
+    uint32_t from, to;
+};
+
+static const struct queued QUEUED[] = {
+    {"queue-16", 16, 15, 12, 1, 4},
+    {"queue-256", 256, 240, 208, 16, 48},
+    {"queue-4096", 4096, 3840, 3584, 256, 512},
+};
+
+static void table_of_queues(void)
+{
+    heading("(b) The queue: a removal, no clauses, no store", "entries", "ns");
+    for (size_t i = 0; i < sizeof QUEUED / sizeof *QUEUED; i++) {
+        const struct queued *q = &QUEUED[i];
+        struct job job = {NULL, sheet_named(q->name), {0, 0, 1000000}, q->entries, 0, 0, 0};
+        struct counts between;
+        char label[64];
+        struct figures f = time_removals(job, q->from, q->to, &between);
+        snprintf(label, sizeof label, "%zu (%zu to %zu), %" PRIu64 " removals", q->entries,
+                 q->first, q->last, between.removals);
+        row(label, &f);
+        free(job.sheet.at);
+    }
+}
+
+/* One of 5,040 conflicts of the plant store-4096 with members 0 to 6 and 15:
+ * one of 4, 5 and 6 has its forbidden last value, the two others any other; 0
+ * to 3 have value 0, and 15 any. */
+static void make_conflict(uint32_t number, uint64_t *entry)
+{
+    uint32_t rest = number / 16, at[3];
+    if (rest < 45) {
+        at[0] = 15, at[1] = rest / 3, at[2] = rest % 3;
+    } else if (rest < 90) {
+        at[0] = (rest - 45) / 3, at[1] = 15, at[2] = rest % 3;
+    } else {
+        at[0] = (rest - 90) / 15, at[1] = rest % 15, at[2] = 3;
+    }
+    entry[0] = UINT64_C(0xfe01) << 48;
+    entry[1] = number % 16;
+    for (int i = 0; i < 3; i++)
+        entry[1] |= (uint64_t)at[i] << (60 - 4 * (4 + i));
+}
+
+/* Offers so many conflicts, in no order; all survive, so the store stays. */
+static void offer_conflicts(uint32_t count)
+{
+    for (uint32_t i = 0; i < count; i++)
+        make_conflict(i * 1009 % 5040, &lent.store[2 * i]);
+}
+
+static void table_of_stores(void)
+{
+    static const uint32_t counts[] = {0, 64, 4096};
+    struct job job = {NULL, sheet_named("store-4096"), {0, 0, 1000000}, 4096, 0, 0, 0};
+    heading("(c) The store: a removal, with the scans of it and its children", "entries", "ns");
+    for (size_t i = 0; i < sizeof counts / sizeof *counts; i++) {
+        struct counts between;
+        char label[64];
+        job.store = job.settings.held = counts[i];
+        offer_conflicts(counts[i]);
+        struct figures f = time_removals(job, 3, 30, &between);
+        snprintf(label, sizeof label, "%" PRIu32 ", %" PRIu64 " removals", counts[i],
+                 between.removals);
+        row(label, &f);
+        if (counts[i] < 4096)
+            continue;
+        for (int k = 0; k < IMPLEMENTATIONS; k++)
+            f.value[k] *= (double)between.removals / (double)between.looks;
+        row("4096, an entry looked at", &f);
+    }
+    free(job.sheet.at);
+}
+
+/* ---- (d) whole runs ---- */
+
+struct whole {
+    const char *name;
+    struct settings settings;
+    size_t store;
+};
+
+static const struct whole WHOLE[] = {
+    {"driveline-06a", {16, 0, 1000000}, 64}, {"driveline-06b", {16, 0, 1000000}, 64},
+    {"driveline-08a", {16, 0, 1000000}, 64}, {"driveline-08b", {16, 0, 1000000}, 64},
+    {"driveline-10a", {16, 0, 1000000}, 64}, {"driveline-10b", {16, 0, 1000000}, 64},
+    {"driveline-12a", {16, 0, 1000000}, 64}, {"driveline-12b", {16, 0, 1000000}, 64},
+    {"driveline-14a", {16, 0, 1000000}, 64}, {"driveline-14b", {16, 0, 1000000}, 64},
+    {"driveline-16a", {16, 0, 1000000}, 64}, {"driveline-16b", {16, 0, 1000000}, 64},
+    {"driveline-16c", {16, 0, 1000000}, 64}, {"queue-4096", {4096, 0, 0}, 64},
+    {"learn-4096", {4096, 0, 1000000}, 4096},
+};
+
+/* One run by each implementation, which shall answer alike; its label. */
+static void label_run(const struct job *jobs, const char *name, char *label)
+{
+    static const char *const endings[] = {"?", "enough", "all", "full", "spent"};
+    uint32_t first[RESULT_WORDS];
+    for (int i = 0; i < IMPLEMENTATIONS; i++) {
+        if (!can_run(&jobs[i]))
+            continue;
+        run(&jobs[i]);
+        if (i == 0)
+            memcpy(first, lent.result, sizeof first);
+        if (memcmp(first, lent.result, sizeof first))
+            give_up("another answer than plain's (make check) on", name);
+    }
+    snprintf(label, 64, "%s %s %" PRIu32 " (%" PRIu32 ")", name, endings[first[0]], first[1],
+             first[5]);
+}
+
+static void table_of_runs(void)
+{
+    struct figures total = {{0}, 0, 0, 0};
+    heading("(d) Whole runs: sheet, ending, listed (trials)", "run", "us");
+    for (size_t i = 0; i < sizeof WHOLE / sizeof *WHOLE; i++) {
+        const struct whole *w = &WHOLE[i];
+        struct job jobs[IMPLEMENTATIONS];
+        struct job job = {NULL, sheet_named(w->name), w->settings, 4096, w->store, 0, 0};
+        struct samples s;
+        char label[64];
+        for_each(jobs, job);
+        label_run(jobs, w->name, label);
+        take_samples(jobs, IMPLEMENTATIONS, &s);
+        struct figures f = figures_of(&s, 0, -1, 1e6);
+        for (int k = 0; k < IMPLEMENTATIONS; k++)
+            total.value[k] += strncmp(w->name, "driveline", 9) ? 0 : f.value[k];
+        row(label, &f);
+        free(job.sheet.at);
+    }
+    total.plain_ours = total.value[PLAIN] / total.value[OURS];
+    total.ours_same = total.value[OURS] / total.value[SAME];
+    total.plain_same = total.value[PLAIN] / total.value[SAME];
+    row("all drivelines", &total);
+}
+
+int main(int count, char **words)
+{
+    if (count != 2)
+        give_up("usage", "bench CORPUS_FOLDER");
+    folder = words[1];
+    fill_with_junk(&lent);
+    printf("Processor time, medians of interleaved runs in one process. The lent buffers were\n"
+           "filled with junk once and are lent again as the last run left them: not cleared\n"
+           "before a run, and warm.\n");
+#ifndef OURS_LIST
+    printf("Without ours: make LIB=path/libNAME.a links it.\n");
+#endif
+    table_of_tests();
+    table_of_queues();
+    table_of_stores();
+    table_of_runs();
+    return 0;
+}

@@ -1,0 +1,370 @@
+/* Runs all implementations on the same cases and compares every answer and
+ * every lent word; no timing. Exits with 1 on a difference.
+ *
+ *   check corpus SHEET...
+ *   check sheets|tests|listings STREAM [LINES]
+ *
+ * STREAM and LINES are what outside/vectors.py writes as stdin and stdout.
+ * Without LINES the implementations are compared with each other only. */
+#include "implementations.h"
+#include "lent.h"
+
+#include <inttypes.h>
+#include <stdbool.h>
+#include <stdio.h>
+#include <stdlib.h>
+#include <string.h>
+
+enum { LINE_MOST = 256, DIFFERENCES_SHOWN = 10 };
+
+static unsigned cases, comparisons, differences;
+static struct lent lent, first_lent;
+
+static void differ(const char *where, const char *name, const char *got, const char *wanted)
+{
+    if (differences++ < DIFFERENCES_SHOWN)
+        fprintf(stderr, "%s, case %u: %s\n  got    %s\n  wanted %s\n", where, cases, name, got,
+                wanted);
+}
+
+static void compare(const char *where, const char *name, const char *got, const char *wanted)
+{
+    comparisons++;
+    if (strcmp(got, wanted))
+        differ(where, name, got, wanted);
+}
+
+/* ---- the stream and its lines ---- */
+
+struct stream {
+    struct bytes all;
+    size_t place;
+    FILE *lines; /* NULL where there are none */
+};
+
+static const uint8_t *take(struct stream *s, size_t length)
+{
+    if (length > s->all.length - s->place)
+        give_up("stream too short", "");
+    s->place += length;
+    return s->all.at + s->place - length;
+}
+
+static uint64_t number(struct stream *s, size_t width)
+{
+    const uint8_t *bytes = take(s, width);
+    uint64_t n = 0;
+    for (size_t i = 0; i < width; i++)
+        n = n << 8 | bytes[i];
+    return n;
+}
+
+static struct bytes sheet_of(struct stream *s)
+{
+    size_t length = number(s, 2);
+    return (struct bytes){(uint8_t *)take(s, length), length};
+}
+
+/* The next line of what is wanted; false where there are no lines. */
+static bool wanted_line(struct stream *s, char *line)
+{
+    if (!s->lines)
+        return false;
+    if (!fgets(line, LINE_MOST, s->lines))
+        give_up("too few lines", "");
+    line[strcspn(line, "\n")] = 0;
+    return true;
+}
+
+/* ---- sheets ---- */
+
+/* The refusal alone: the tables of a plant are nobody's lent buffer. */
+static void check_sheet_case(struct stream *s)
+{
+    char wanted[LINE_MOST], got[LINE_MOST], first[LINE_MOST];
+    struct bytes sheet = sheet_of(s);
+    bool known = wanted_line(s, wanted);
+    if (known && strncmp(wanted, "refused", 7))
+        strcpy(wanted, "refused 0");
+    for (int i = 0; i < IMPLEMENTATIONS; i++) {
+        uint32_t result[2];
+        if (!implementations[i].test)
+            continue;
+        uint32_t refusal = implementations[i].test(sheet.at, sheet.length, 0, 0, 0, result, 2);
+        snprintf(got, sizeof got, "refused %" PRIu32, refusal);
+        if (i == 0)
+            strcpy(first, got);
+        compare("sheets", implementations[i].name, got, known ? wanted : first);
+    }
+}
+
+/* ---- tests and reductions ---- */
+
+struct call {
+    bool reduces;
+    struct bytes sheet;
+    uint64_t mask, values;
+    uint32_t limit;
+};
+
+static void reduce_line(reduce_call *reduce, const struct call *c, char *line)
+{
+    uint32_t result[2];
+    uint64_t conflict[2];
+    uint32_t refusal = reduce(c->sheet.at, c->sheet.length, c->mask, c->values, c->limit,
+                              conflict, result);
+    if (refusal)
+        snprintf(line, LINE_MOST, "refused %" PRIu32, refusal);
+    else if (result[0] == INCONSISTENT)
+        snprintf(line, LINE_MOST, "conflict %016" PRIx64 " %016" PRIx64 " %" PRIu32, conflict[0],
+                 conflict[1], result[1]);
+    else
+        snprintf(line, LINE_MOST, "%s %" PRIu32, result[0] == SPENT ? "spent" : "none",
+                 result[1]);
+}
+
+static void test_line(test_call *test, const struct call *c, char *line)
+{
+    static const char *const names[] = {"?", "consistent", "inconsistent", "spent"};
+    uint32_t result[4] = {7, 7, 7, 7};
+    uint32_t refusal =
+        test(c->sheet.at, c->sheet.length, c->mask, c->values, c->limit, result, 3);
+    if (refusal)
+        snprintf(line, LINE_MOST, "refused %" PRIu32, refusal);
+    else
+        snprintf(line, LINE_MOST, "%s %" PRIu32, names[result[0] & 3], result[1]);
+    if (result[2] != 7 || result[3] != 7 || (refusal && (result[0] != 7 || result[1] != 7)))
+        strcat(line, " and wrote where it may not");
+}
+
+/* All implementations against the line, or against the first of them. */
+static void check_call(const char *where, const struct call *c, const char *wanted)
+{
+    char got[LINE_MOST], first[LINE_MOST];
+    for (int i = 0; i < IMPLEMENTATIONS; i++) {
+        const struct implementation *own = &implementations[i];
+        if (c->reduces ? !own->reduce : !own->test)
+            continue;
+        if (c->reduces)
+            reduce_line(own->reduce, c, got);
+        else
+            test_line(own->test, c, got);
+        if (i == 0)
+            strcpy(first, got);
+        compare(where, own->name, got, wanted ? wanted : first);
+    }
+}
+
+static void check_test_case(struct stream *s)
+{
+    char wanted[LINE_MOST];
+    struct call c;
+    c.reduces = number(s, 1) == 1;
+    c.sheet = sheet_of(s);
+    c.mask = number(s, 8);
+    c.values = number(s, 8);
+    c.limit = (uint32_t)number(s, 4);
+    bool known = wanted_line(s, wanted);
+    check_call("tests", &c, known ? wanted : NULL);
+}
+
+/* ---- listings ---- */
+
+static uint32_t fnv(uint32_t checksum, uint64_t word, int width)
+{
+    for (int shift = 8 * (width - 1); shift >= 0; shift -= 8)
+        checksum = (checksum ^ (uint8_t)(word >> shift)) * UINT32_C(16777619);
+    return checksum;
+}
+
+static uint32_t lent_checksum(const struct lent *l)
+{
+    uint32_t checksum = UINT32_C(2166136261);
+    for (size_t i = 0; i < l->codes_len; i++)
+        checksum = fnv(checksum, l->codes[i], 8);
+    for (size_t i = 0; i < l->costs_len; i++)
+        checksum = fnv(checksum, l->costs[i], 4);
+    for (size_t i = 0; i < l->queue_len; i++)
+        checksum = fnv(checksum, l->queue[i], 8);
+    for (size_t i = 0; i < l->store_len; i++)
+        checksum = fnv(checksum, l->store[i], 8);
+    return checksum;
+}
+
+static void list_line(const struct lent *l, uint32_t refusal, char *line)
+{
+    static const char *const endings[] = {"?", "enough", "all", "full", "spent"};
+    const uint32_t *r = l->result;
+    if (refusal)
+        snprintf(line, LINE_MOST, "refused %" PRIu32, refusal);
+    else
+        snprintf(line, LINE_MOST,
+                 "%s %" PRIu32 " %" PRIu32 " %" PRIu32 " %" PRIu32 " %" PRIu32 " %08" PRIx32,
+                 endings[r[0] <= 4 ? r[0] : 0], r[1], r[2], r[3], r[4], r[5], lent_checksum(l));
+}
+
+/* Lends fresh buffers: junk, and the given words at the store's start. */
+static void lend(const struct lent *lengths, const uint64_t *given, size_t given_len)
+{
+    fill_with_junk(&lent);
+    lent.codes_len = lengths->codes_len;
+    lent.costs_len = lengths->costs_len;
+    lent.queue_len = lengths->queue_len;
+    lent.store_len = lengths->store_len;
+    lent.result_len = lengths->result_len;
+    if (given_len)
+        memcpy(lent.store, given, given_len * sizeof *given);
+}
+
+/* All implementations against the line, or against the first of them; every
+ * lent word and the spare ones against the first's. A refusal changes none. */
+static void check_listing(const char *where, struct bytes sheet, struct settings settings,
+                          const struct lent *lengths, const uint64_t *given, size_t given_len,
+                          const char *wanted)
+{
+    char got[LINE_MOST], first[LINE_MOST];
+    for (int i = 0; i < IMPLEMENTATIONS; i++) {
+        const struct implementation *own = &implementations[i];
+        if (!own->list)
+            continue;
+        lend(lengths, given, given_len);
+        uint32_t refusal = list_lent(own->list, sheet, &lent, settings);
+        list_line(&lent, refusal, got);
+        if (i == 0) {
+            strcpy(first, got);
+            memcpy(&first_lent, &lent, sizeof lent);
+        }
+        compare(where, own->name, got, wanted ? wanted : first);
+        if (i == 0 && refusal)
+            lend(lengths, given, given_len);
+        if (memcmp(&first_lent, &lent, sizeof lent))
+            differ(where, own->name, "other lent words", i ? "those of the first" : "unchanged");
+    }
+}
+
+static void check_listing_case(struct stream *s)
+{
+    static struct lent lengths;
+    static uint64_t given[65536];
+    char wanted[LINE_MOST];
+    struct bytes sheet = sheet_of(s);
+    struct settings settings;
+    settings.k = (uint32_t)number(s, 4);
+    lengths.codes_len = number(s, 2);
+    lengths.costs_len = number(s, 2);
+    lengths.queue_len = number(s, 2);
+    lengths.store_len = number(s, 2);
+    lengths.result_len = RESULT_WORDS + 1;
+    settings.held = number(s, 2);
+    settings.limit = (uint32_t)number(s, 4);
+    size_t given_len = number(s, 2);
+    for (size_t i = 0; i < given_len; i++)
+        given[i] = number(s, 8);
+    bool known = wanted_line(s, wanted);
+    check_listing("listings", sheet, settings, &lengths, given, given_len,
+                  known ? wanted : NULL);
+}
+
+static void check_stream(const char *kind, const char *path, const char *lines_path)
+{
+    struct stream s = {file_bytes(path), 0, NULL};
+    if (lines_path && !(s.lines = fopen(lines_path, "r")))
+        give_up("cannot open", lines_path);
+    unsigned count = (unsigned)number(&s, 2);
+    for (cases = 0; cases < count; cases++) {
+        if (!strcmp(kind, "sheets"))
+            check_sheet_case(&s);
+        else if (!strcmp(kind, "tests"))
+            check_test_case(&s);
+        else
+            check_listing_case(&s);
+    }
+    if (s.place != s.all.length)
+        give_up("bytes after the last case", path);
+    if (s.lines)
+        fclose(s.lines);
+    free(s.all.at);
+}
+
+/* ---- corpus ---- */
+
+/* A listing under other settings: queue and store in entries. One result word
+ * more than six is lent. */
+static void check_run(const char *path, struct bytes sheet, struct settings settings,
+                      size_t queue, size_t store, const uint64_t *given)
+{
+    static struct lent lengths;
+    lengths.codes_len = settings.k + 3;
+    lengths.costs_len = settings.k + 1;
+    lengths.queue_len = 2 * queue;
+    lengths.store_len = 2 * store;
+    lengths.result_len = RESULT_WORDS + 1;
+    check_listing(path, sheet, settings, &lengths, given, 2 * settings.held, NULL);
+}
+
+/* Fewer than six result words are refused, after k and before the queue. */
+static void check_short_result(const char *path, struct bytes sheet)
+{
+    static struct lent lengths = {.codes_len = 16, .costs_len = 16, .result_len = 5};
+    struct settings settings = {16, 0, 1000};
+    check_listing(path, sheet, settings, &lengths, NULL, 0, "refused 2");
+    settings.k = 0;
+    check_listing(path, sheet, settings, &lengths, NULL, 0, "refused 1");
+    lengths.result_len = RESULT_WORDS;
+    settings.k = 16;
+    check_listing(path, sheet, settings, &lengths, NULL, 0, "refused 3");
+    lengths.result_len = 5;
+}
+
+/* The corpus's own run, then shorter limits, queues and stores, then a run
+ * that is offered what the first learned. On long sheets plain is slow: they
+ * get a tenth of the trials. */
+static void check_runs(const char *path, struct bytes sheet)
+{
+    static uint64_t learned[2 * 64];
+    uint32_t most = sheet.length < 1000 ? 1000000 : 100000, some = most / 5;
+    check_run(path, sheet, (struct settings){16, 0, most}, 4096, 64, NULL);
+    uint32_t trials = first_lent.result[5], kept = first_lent.result[3];
+    memcpy(learned, first_lent.store, sizeof learned);
+    check_run(path, sheet, (struct settings){1, 0, some}, 4096, 64, NULL);
+    check_run(path, sheet, (struct settings){400, 0, some}, 4096, 64, NULL);
+    check_run(path, sheet, (struct settings){16, 0, some}, 4096, 0, NULL);
+    check_run(path, sheet, (struct settings){16, 0, some}, 12, 64, NULL);
+    check_run(path, sheet, (struct settings){16, kept, some}, 4096, 64, learned);
+    check_run(path, sheet, (struct settings){16, 0, trials / 2}, 4096, 3, NULL);
+    check_run(path, sheet, (struct settings){16, 0, trials ? trials - 1 : 0}, 4096, 64, NULL);
+}
+
+static void check_sheet(const char *path)
+{
+    struct bytes sheet = file_bytes(path);
+    check_runs(path, sheet);
+    check_short_result(path, sheet);
+    uint32_t limits[] = {0, 1, 1000, 10000};
+    for (size_t i = 0; i < sizeof limits / sizeof *limits; i++) {
+        struct call c = {false, sheet, 0, 0, limits[i]};
+        check_call(path, &c, NULL);
+        c.mask = UINT64_C(1) << 63;
+        check_call(path, &c, NULL);
+        c.reduces = true;
+        check_call(path, &c, NULL);
+    }
+    free(sheet.at);
+}
+
+int main(int count, char **words)
+{
+    if (count >= 3 && !strcmp(words[1], "corpus")) {
+        for (int i = 2; i < count; i++, cases++)
+            check_sheet(words[i]);
+    } else if ((count == 3 || count == 4)
+               && (!strcmp(words[1], "sheets") || !strcmp(words[1], "tests")
+                   || !strcmp(words[1], "listings"))) {
+        check_stream(words[1], words[2], count == 4 ? words[3] : NULL);
+    } else {
+        give_up("usage", "check corpus SHEET... | check sheets|tests|listings STREAM [LINES]");
+    }
+    printf("%s: %u cases, %u comparisons, %u differences\n", words[1], cases, comparisons,
+           differences);
+    return differences ? 1 : 0;
+}
