@@ -5,6 +5,7 @@ use Prim.Native.Nat.{ℕ, _+_, _-_, _*_, _/_, _%_, _^_, _≤_}
 use native.Mathlib.Omega.{arith}
 use native.Mathlib.Nat.{one-mul, mod-eq-of-lt}
 use lib.Pow.{pow-lt}
+use lib.Bits.{bitAnd, and-mask}
 use lib.ListN.{getD, drop}
 use Rattle.model.specs.Digits.{number}
 use Rattle.model.specs.Sheet.{bitsAt}
@@ -22,10 +23,10 @@ three sheet i =
     let e : i + 1 + 1 ≡ i + 2 = omega arith in
     word-step sheet 2 i ∙ rw (word-step sheet 1 (i + 1), word-step sheet 0 (i + 1 + 1), e) (omega arith)
 
--- the field by shift and remainder of that word
+-- the field by shift and mask of that word
 pub in-three : (sheet : List ℕ) → Below 256 sheet → (place w a b d : ℕ) → w ≤ 16
     → a ≡ getD sheet (place / 8) 0 → b ≡ getD sheet (place / 8 + 1) 0 → d ≡ getD sheet (place / 8 + 2) 0
-    → (a * 65536 + b * 256 + d) / 2 ^ (24 - place % 8 - w) % (1 * 2 ^ w % 4294967296) ≡ number 2 w (bitsAt sheet w place)
+    → bitAnd ((a * 65536 + b * 256 + d) / 2 ^ (24 - place % 8 - w)) (1 * 2 ^ w % 4294967296 - 1) ≡ number 2 w (bitsAt sheet w place)
 in-three sheet bytes place w a b d h p q r =
     let e : 8 * (place / 8) + place % 8 ≡ place = omega arith in
-    rw (one-shifted w h, p, q, r, ← three sheet (place / 8)) (rw e at (sym (field-word sheet bytes 3 (place / 8) (place % 8) w (24 - place % 8 - w) (omega arith))))
+    rw (one-shifted w h, and-mask ((a * 65536 + b * 256 + d) / 2 ^ (24 - place % 8 - w)) w, p, q, r, ← three sheet (place / 8)) (rw e at (sym (field-word sheet bytes 3 (place / 8) (place % 8) w (24 - place % 8 - w) (omega arith))))

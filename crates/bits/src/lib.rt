@@ -28,7 +28,7 @@ pub fn value(sheet: &[u8], place: usize, w: usize) -> u32
     let i = place / 8;
     let word = byte(sheet, i) * 65536 + byte(sheet, i + 1) * 256 + byte(sheet, i + 2);
     let after = 24 - place % 8 - w;
-    (word >> after) % (1 << w)
+    (word >> after) & ((1 << w) - 1)
 }
 
 // The field of w bits at a place, or that it runs past the end.

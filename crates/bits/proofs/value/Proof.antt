@@ -52,8 +52,8 @@ cast-result-2 c = search needs
 shl-result : tie.Need-shl-result
 shl-result c = search needs
 
-rem-result : tie.Need-rem-result
-rem-result c = rw (one-shifted (c .before .before .before .before .args .w) (c .before .before .before .before .pre)) (pow-pos (c .before .before .before .before .args .w))
+sub-result : tie.Need-sub-result
+sub-result c = rw (one-shifted (c .before .before .before .before .args .w) (c .before .before .before .before .pre)) (pow-pos (c .before .before .before .before .args .w))
 
 returns : tie.Need-returns
 returns c =
@@ -80,5 +80,5 @@ value-spec =
     shr-result
     cast-result-2
     shl-result
-    rem-result
+    sub-result
     returns)
