@@ -1,6 +1,6 @@
 -- For callers: an accepted plant's tables are what the test asks for, and what it answers is the model's test of the plant. Assumes nothing.
 use mathlib.Core.Path.{_≡_, refl, sym, ap, ap₂, _∙_}
-use mathlib.Core.Option.{Option, none, some}
+use mathlib.Core.Option.{none, some}
 use mathlib.Core.List.{List, [], _∷_, _++_, map}
 use Prim.Native.Nat.{ℕ, zero, suc, _+_, _*_, _<_, _≤_}
 use native.Mathlib.Omega.{arith}
@@ -12,7 +12,7 @@ use Rattle.model.specs.Assignment.{Assignment, Under, Valid}
 use Rattle.model.specs.Consistency.{test, overAll}
 use Rattle.theory.specs.Tables.{clauses, total, rows, plantOf}
 use Rattle.theory.specs.Words.{byte}
-use Rattle.theory.specs.Plant.{Sized, Accepted}
+use Rattle.theory.specs.Plant.{Accepted}
 use Rattle.theory.proofs.Lists.{all-map, all-join, all-image}
 use Rattle.theory.proofs.Agreement.{valid-length, valid-over}
 use Rattle.theory.proofs.Words.{valid-small}
@@ -108,7 +108,8 @@ module _ (p : Plant) (ok : Accepted edition1 p) where
       pub plant-test : (limit used : ℕ) → test p limit a used ≡ testOver (clauses counts lits) ss limit used (map given vals)
       plant-test limit used = test-over p limit a used ∙ rw (vals-are, bytes-give a valid, sizes-are, clauses-are)
 
-      pub plant-ended : (limit used : ℕ) (after : List ℕ) (r : Answer) → Ended (testOver (clauses counts lits) ss limit used (map given vals)) vals after r → Ended (test p limit a used) vals after r
+      pub plant-ended : (limit used : ℕ) (after : List ℕ) (r : Answer)
+          → Ended (testOver (clauses counts lits) ss limit used (map given vals)) vals after r → Ended (test p limit a used) vals after r
       plant-ended limit used after r h = moved (test p limit a used) (testOver (clauses counts lits) ss limit used (map given vals)) vals after r (plant-test limit used) h
 
 -- ---- the plant of decoded tables
@@ -122,7 +123,27 @@ rows-sizes (n ∷ ns) costs h l =
     (rows-sizes ns (drop 16 costs) (h .1) (simp length-drop (omega arith)))
 
 -- so its sizes are those of the table
-pub plant-sizes : (d s c : ℕ) (ns costs counts lits : List ℕ) → All (λ n. n ≤ 16) (take d ns) → 16 * d ≤ length costs → sizes (plantOf d s c ns costs counts lits) ≡ take (d + s) ns
+pub plant-sizes : (d s c : ℕ) (ns costs counts lits : List ℕ) → All (λ n. n ≤ 16) (take d ns) → 16 * d ≤ length costs
+    → sizes (plantOf d s c ns costs counts lits) ≡ take (d + s) ns
 plant-sizes d s c ns costs counts lits small l =
     ap (λ (xs : List ℕ). xs ++ take s (drop d ns)) (rows-sizes (take d ns) costs small (omega (arith, length-take d ns)))
     ∙ sym (take-add d s ns)
+
+-- and the test may be given the first d + s sizes and the first c counts
+module _ (d s c : ℕ) (ns costs counts lits : List ℕ) (ok : Accepted edition1 (plantOf d s c ns costs counts lits))
+    (small : All (λ n. n ≤ 16) (take d ns)) (enough : 16 * d ≤ length costs) (room : 3 * total (take c counts) ≤ length lits) where
+  abbrev p : Plant
+  p = plantOf d s c ns costs counts lits
+
+  sizes-are : sizes p ≡ take (d + s) ns
+  sizes-are = plant-sizes d s c ns costs counts lits small enough
+
+  pub decoded-tables : Tables 48 (take c counts) lits
+  decoded-tables = plant-tables-48 p ok (take (d + s) ns) (take c counts) lits sizes-are refl room
+
+  module _ (a : Assignment) (valid : Valid (decisionSizes p) a) (vals : List ℕ) (vals-are : vals ≡ map byte (overAll p a)) where
+    pub decoded-given : (sat uses : List ℕ) → Prepared (clauses (take c counts) lits) sat uses → Given (take (d + s) ns) (take c counts) lits sat uses vals
+    decoded-given = plant-given p ok (take (d + s) ns) (take c counts) lits sizes-are refl room a valid vals vals-are
+
+    pub decoded-test : (limit used : ℕ) → test p limit a used ≡ testOver (clauses (take c counts) lits) (take (d + s) ns) limit used (map given vals)
+    decoded-test = plant-test p ok (take (d + s) ns) (take c counts) lits sizes-are refl room a valid vals vals-are

@@ -1,5 +1,5 @@
 -- How the model's test ends and how the code does: from one to the other and back. Assumes nothing.
-use mathlib.Core.Path.{_≡_, refl}
+use mathlib.Core.Path.{_≡_}
 use mathlib.Core.List.{List}
 use Prim.Native.Nat.{ℕ}
 use Rattle.model.specs.Consistency.{Tested, consistent, inconsistent, spent}

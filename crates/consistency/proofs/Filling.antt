@@ -7,7 +7,7 @@ use lib.ListN.{length, getD, take, drop}
 use Rattle.theory.specs.Tables.{literals, clauses}
 use Rattle.theory.specs.Search.{anyAt, mentions, satisfiedAt}
 use Rattle.theory.proofs.TableClauses.{clauses-length, Along, along-first, along-nth, along-next}
-use Rattle.consistency.specs.Sets.{Marked, clauseRows}
+use Rattle.consistency.specs.Sets.{clauseRows, Entered}
 use Rattle.consistency.specs.Given.{Tables, Prepared}
 use Rattle.consistency.proofs.Marks.{Upto, upto-first, upto-step, upto-end}
 
@@ -23,7 +23,8 @@ module _ (counts lits sat₀ uses₀ : List ℕ) where
     pub sat-has : Upto clauseRows (clauses counts lits) i sat
     pub uses-has : Upto (λ ls v. mentions v ls) (clauses counts lits) i uses
 
-  pub filling-first : Tables 48 counts lits → 6144 ≤ length sat₀ → 384 ≤ length uses₀ → ((k : ℕ) → getD sat₀ k 0 ≡ 0) → ((k : ℕ) → getD uses₀ k 0 ≡ 0) → Filling sat₀ uses₀ 0 0
+  pub filling-first : Tables 48 counts lits → 6144 ≤ length sat₀ → 384 ≤ length uses₀
+      → ((k : ℕ) → getD sat₀ k 0 ≡ 0) → ((k : ℕ) → getD uses₀ k 0 ≡ 0) → Filling sat₀ uses₀ 0 0
   filling-first t s u z y = record {
     most = t .most;
     sat-long = s;
@@ -40,8 +41,8 @@ module _ (counts lits sat₀ uses₀ : List ℕ) where
     part = take (3 * getD counts i 0) (drop from lits)
 
     pub filling-next : i < length counts → (sat′ uses′ : List ℕ) → length sat′ ≡ length sat → length uses′ ≡ length uses
-        → Marked (clauseRows (literals part)) sat i sat′ → Marked (λ v. mentions v (literals part)) uses i uses′ → Filling sat′ uses′ (from + 3 * getD counts i 0) (i + 1)
-    filling-next lt sat′ uses′ p q m n =
+        → Entered (literals part) i sat uses sat′ uses′ → Filling sat′ uses′ (from + 3 * getD counts i 0) (i + 1)
+    filling-next lt sat′ uses′ p q m =
         let nth = along-nth 48 counts lits i from (f .along) lt in
         record {
           most = f .most;
@@ -50,8 +51,8 @@ module _ (counts lits sat₀ uses₀ : List ℕ) where
           sat-same = p ∙ f .sat-same;
           uses-same = q ∙ f .uses-same;
           along = along-next 48 counts lits i from (f .along) lt;
-          sat-has = upto-step clauseRows (clauses counts lits) i sat sat′ (literals part) (f .sat-has) m nth;
-          uses-has = upto-step (λ ls v. mentions v ls) (clauses counts lits) i uses uses′ (literals part) (f .uses-has) n nth;
+          sat-has = upto-step clauseRows (clauses counts lits) i sat sat′ (literals part) (f .sat-has) (m .satisfies) nth;
+          uses-has = upto-step (λ ls v. mentions v ls) (clauses counts lits) i uses uses′ (literals part) (f .uses-has) (m .mentioned) nth;
         }
 
     pub filling-end : length counts ≤ i → Prepared (clauses counts lits) sat uses

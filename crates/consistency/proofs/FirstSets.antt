@@ -1,7 +1,7 @@
 -- The sets with which a search starts, made variable by variable from the last down. Assumes nothing.
 use mathlib.Core.Path.{_≡_, refl, sym, ap, ap₂, _∙_}
 use mathlib.Core.Bool.{Bool, true, false, not, _&&_, _||_, false≢true}
-use mathlib.Core.Option.{Option, none, some}
+use mathlib.Core.Option.{none}
 use mathlib.Core.List.{List, [], _∷_, map}
 use Prim.Native.Nat.{ℕ, zero, suc, _+_, _*_, _/_, _%_, _<_, _≤_}
 use native.Mathlib.Omega.{arith}
@@ -11,14 +11,14 @@ use lib.Dec.{eqb}
 use lib.ListN.{length, getD, replicate}
 use Rattle.model.specs.Lists.{All}
 use Rattle.model.specs.Sheet.{Literal}
-use Rattle.model.specs.Assignment.{Assignment, isSome, nibble}
-use Rattle.theory.specs.Search.{nth, mentions, satisfiedAt, satisfied, satisfiedFrom, waits, due}
+use Rattle.model.specs.Assignment.{isSome, nibble}
+use Rattle.theory.specs.Search.{nth, satisfiedAt, satisfiedFrom, waits, due}
 use Rattle.theory.proofs.Search.{waits-step, waits-end, satisfied-step, satisfied-end, satisfied-all}
 use Rattle.consistency.specs.Answers.{given}
 use Rattle.consistency.specs.Sets.{inSet, SetOf, Joined, Less}
-use Rattle.consistency.specs.Given.{Lent, Clauses, DueFrom, Started}
+use Rattle.consistency.specs.Given.{Clauses, DueFrom, Started}
 use Rattle.consistency.proofs.Bits.{bit-zero}
-use Rattle.consistency.proofs.Bytes.{given-at, given-none, given-some, none-given, is-given}
+use Rattle.consistency.proofs.Bytes.{given-at, given-none, given-some, is-given}
 
 -- a set of nothing
 zeros : (n k : ℕ) → getD {A = ℕ} (replicate n 0) k 0 ≡ 0
@@ -64,8 +64,14 @@ module _ (vals sat uses : List ℕ) where
     unfolding due
     from-next cs k f = record {
       dues = record { has = λ u h l e. due-at u h l e (ℕ-discrete u v) };
-      holds = record { has = λ c h. joins′ .has c h ∙ ap₂ _||_ (f .holds .has c h) (held-at c h (ℕ-discrete (getD vals v 0) 16)) ∙ sym (satisfied-step (map given vals) v (nth cs c) ∙ rw here) };
-      waiting = record { has = λ c h. joins .has c h ∙ ap₂ _||_ (f .waiting .has c h) (ap₂ _&&_ is-free (k .ready .mentioned v (omega arith) .has c h)) ∙ sym (waits-step (map given vals) v (nth cs c) ∙ rw here) };
+      holds = record {
+        has = λ c h. joins′ .has c h ∙ ap₂ _||_ (f .holds .has c h) (held-at c h (ℕ-discrete (getD vals v 0) 16))
+            ∙ sym (satisfied-step (map given vals) v (nth cs c) ∙ rw here);
+      };
+      waiting = record {
+        has = λ c h. joins .has c h ∙ ap₂ _||_ (f .waiting .has c h) (ap₂ _&&_ is-free (k .ready .mentioned v (omega arith) .has c h))
+            ∙ sym (waits-step (map given vals) v (nth cs c) ∙ rw here);
+      };
     }
       where
         here : getD (map given vals) v none ≡ given (getD vals v 0)
@@ -84,10 +90,9 @@ module _ (vals sat uses : List ℕ) where
         held-at c h (no d) = rw (ne-eqb (getD vals v 0) 16 d, given-some (getD vals v 0) d, at-row) (k .ready .satisfies v (getD vals v 0) (omega arith) (omega arith) .has c h)
 
         due-at : (u : ℕ) → v ≤ u → u < length vals → getD (map given vals) u none ≡ none → Dec (u ≡ v) → SetOf (due (map given vals) u) cs after u
-        due-at u h l e (yes p) = rw p record { has = λ c b. less .here c b ∙ ap₂ (λ (x y : Bool). x && not y) (k .ready .mentioned v (omega arith) .has c b) (f .waiting .has c b) ∙ said c }
-          where
-            said : (c : ℕ) → (mentions v (nth cs c) && not (waits (map given vals) (v + 1) (nth cs c))) ≡ due (map given vals) v (nth cs c)
-            said c = refl
+        due-at u h l e (yes p) = rw p record {
+          has = λ c b. less .here c b ∙ ap₂ (λ (x y : Bool). x && not y) (k .ready .mentioned v (omega arith) .has c b) (f .waiting .has c b);
+        }
         due-at u h l e (no p) = record { has = λ c b. less .rest u c b p ∙ f .dues .has u (omega arith) l e .has c b }
 
   -- at 0 they are whole

@@ -42,7 +42,14 @@ module _ (table : List ℕ) (row c : ℕ) (fits : row * 8 + 8 ≤ length table) 
   stored : (k : ℕ) → k / 64 ≡ c / 64 → inSet after row k ≡ (inSet table row k || eqb k c && eqb row row)
   unfolding inSet
   stored k e =
-      rw (e, getD-set-same table place (bitOr (getD table place 0) (1 * 2 ^ (c % 64) % 2 ^ 64)) 0 (omega arith), one, bit-or (getD table place 0) (2 ^ (c % 64)) (k % 64), bit-pow (c % 64) (k % 64), eq-eqb row row refl)
+      rw (
+        e,
+        getD-set-same table place (bitOr (getD table place 0) (1 * 2 ^ (c % 64) % 2 ^ 64)) 0 (omega arith),
+        one,
+        bit-or (getD table place 0) (2 ^ (c % 64)) (k % 64),
+        bit-pow (c % 64) (k % 64),
+        eq-eqb row row refl,
+      )
       (ap (λ (b : Bool). bit (getD table place 0) (k % 64) || b) (go (ℕ-discrete k c)))
     where
       go : Dec (k ≡ c) → eqb (k % 64) (c % 64) ≡ (eqb k c && true)
@@ -52,7 +59,8 @@ module _ (table : List ℕ) (row c : ℕ) (fits : row * 8 + 8 ≤ length table) 
   -- at the others
   others : (r k : ℕ) → k < 512 → (r * 8 + k / 64 ≡ place → ⊥) → (eqb k c && eqb row r) ≡ false → inSet after r k ≡ (inSet table r k || eqb k c && eqb row r)
   unfolding inSet
-  others r k h ne off = rw (getD-set-other table place (r * 8 + k / 64) (bitOr (getD table place 0) (1 * 2 ^ (c % 64) % 2 ^ 64)) 0 ne, off, or-off (bit (getD table (r * 8 + k / 64) 0) (k % 64)))
+  others r k h ne off =
+      rw (getD-set-other table place (r * 8 + k / 64) (bitOr (getD table place 0) (1 * 2 ^ (c % 64) % 2 ^ 64)) 0 ne, off, or-off (bit (getD table (r * 8 + k / 64) 0) (k % 64)))
 
   pub add-marked : Marked (λ r. eqb row r) table c after
   add-marked = record { has = λ r k h. go r k h (ℕ-discrete r row) (ℕ-discrete (k / 64) (c / 64)) }
@@ -84,12 +92,16 @@ marking-step rest next part rows before c a b m n e = record {
     join false false f g h e = refl
 
 -- or there are none at this step
-pub marking-skip : (rest next rows : ℕ → Bool) (before : List ℕ) (c : ℕ) (a : List ℕ) → Marking rest rows before c a → ((r : ℕ) → rest r ≡ next r) → Marking next rows before c a
+pub marking-skip : (rest next rows : ℕ → Bool) (before : List ℕ) (c : ℕ) (a : List ℕ) → Marking rest rows before c a
+    → ((r : ℕ) → rest r ≡ next r) → Marking next rows before c a
 marking-skip rest next rows before c a m e = record { has = λ r k h. ap (λ (b : Bool). inSet a r k || eqb k c && b) (sym (e r)) ∙ m .has r k h }
 
 -- none are to come
-pub marking-end : (rest rows : ℕ → Bool) (before : List ℕ) (c : ℕ) (now : List ℕ) → Marking rest rows before c now → ((r : ℕ) → rest r ≡ false) → Marked rows before c now
-marking-end rest rows before c now m off = record { has = λ r k h. sym (ap (λ (b : Bool). inSet now r k || eqb k c && b) (off r) ∙ ap (λ (b : Bool). inSet now r k || b) (and-off (eqb k c)) ∙ or-off (inSet now r k)) ∙ m .has r k h }
+pub marking-end : (rest rows : ℕ → Bool) (before : List ℕ) (c : ℕ) (now : List ℕ) → Marking rest rows before c now
+    → ((r : ℕ) → rest r ≡ false) → Marked rows before c now
+marking-end rest rows before c now m off = record {
+  has = λ r k h. sym (ap (λ (b : Bool). inSet now r k || eqb k c && b) (off r) ∙ ap (λ (b : Bool). inSet now r k || b) (and-off (eqb k c)) ∙ or-off (inSet now r k)) ∙ m .has r k h;
+}
 
 -- ---- the rows of a literal, value by value
 

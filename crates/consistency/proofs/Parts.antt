@@ -1,12 +1,11 @@
 -- One step along the literals of a clause, and along the clauses. Assumes nothing.
 use mathlib.Core.Path.{_≡_, refl, sym, ap, _∙_}
 use mathlib.Core.Bool.{Bool, true, false, _&&_, _||_}
-use mathlib.Core.List.{List, [], _∷_, map}
+use mathlib.Core.List.{List, map}
 use Prim.Native.Nat.{ℕ, _+_, _*_, _/_, _%_, _<_, _≤_}
-use native.Mathlib.Omega.{arith}
 use lib.Dec.{eqb}
 use lib.ListN.{length, getD, take, drop}
-use Rattle.model.specs.Lists.{All, anyOf}
+use Rattle.model.specs.Lists.{All}
 use Rattle.model.specs.Sheet.{Literal}
 use Rattle.model.specs.Assignment.{Assignment}
 use Rattle.model.specs.Consistency.{holdsAt, literalFails, clauseFalse, anyFalse}

@@ -1,7 +1,7 @@
 -- The search at the variable v, and the turns of its loop over the values of v: what holds at the head of the loop, and what follows at each way out. Assumes nothing.
 use mathlib.Core.Path.{_≡_, refl, sym, ap, ap₂, _∙_}
 use mathlib.Core.Bool.{Bool, true, false, _||_, true≢false}
-use mathlib.Core.Option.{Option, none, some}
+use mathlib.Core.Option.{none, some}
 use mathlib.Core.List.{List, map}
 use Prim.Native.Nat.{ℕ, suc, _+_, _-_, _*_, _<_, _≤_}
 use native.Mathlib.Omega.{arith}
@@ -12,14 +12,14 @@ use Rattle.model.specs.Sheet.{Literal}
 use Rattle.model.specs.Assignment.{Assignment}
 use Rattle.model.specs.Consistency.{Tested, consistent, inconsistent, spent, orElse, anyFalse, tryValues, explore}
 use Rattle.theory.specs.Search.{nth, satisfied, due}
-use Rattle.theory.proofs.Agreement.{Filled, filled-more}
+use Rattle.theory.proofs.Agreement.{filled-more}
 use Rattle.theory.proofs.TestSteps.{attempt, attempt-false, attempt-deeper, turn, turn-spent, hop-try, hop-skip}
 use Rattle.theory.proofs.Search.{due-set, satisfied-set, filled-next, trial-clear, trial-satisfied}
 use Rattle.consistency.specs.declared.Answer.{Answer}
 use Rattle.consistency.specs.declared.Answer.the-variants.{Consistent, Inconsistent, Spent}
 use Rattle.consistency.specs.Answers.{given, Ended}
 use Rattle.consistency.specs.Sets.{inSet, SetOf, Joined, Covers}
-use Rattle.consistency.specs.Given.{DueFrom, Room, Stands}
+use Rattle.consistency.specs.Given.{Room, Stands, Searches}
 use Rattle.consistency.proofs.Endings.{as-consistent, as-inconsistent, as-spent, was-consistent, was-inconsistent, was-spent, moved}
 use Rattle.consistency.proofs.Bytes.{given-length, given-at, given-set, given-none, given-some, filled-values}
 
@@ -27,10 +27,9 @@ use Rattle.consistency.proofs.Bytes.{given-length, given-at, given-set,
 
 module _ (sizes sat last vals : List ℕ) (v : ℕ) (room : Room sizes sat last vals v) where
   -- behind the last variable all are assigned
-  pub all-set : v ≡ length sizes → (held : List ℕ) (limit used : ℕ) (cs : List (List Literal)) → Stands cs sat last vals held v
-      → Ended (explore cs limit sizes (length sizes - v) v used (map given vals)) vals vals (Consistent used)
+  pub all-set : v ≡ length sizes → (held : List ℕ) (used limit : ℕ) → Searches sizes sat last vals held v used limit vals (Consistent used)
   unfolding explore
-  all-set e held limit used cs s =
+  all-set e held used limit cs s =
       let z : length sizes - v ≡ 0 = omega arith in
       let w : v ≡ length vals = omega (arith, room .same) in
       as-consistent (explore cs limit sizes (length sizes - v) v used (map given vals)) vals vals used
@@ -47,10 +46,9 @@ module _ (sizes sat last vals : List ℕ) (v : ℕ) (room : Room sizes sat last 
     room-next = record { upto = omega arith; few = room .few; small = room .small; same = room .same; sat-long = room .sat-long; last-long = room .last-long }
 
     -- a variable with a value is passed over
-    pub passed : (getD vals v 0 ≡ 16 → ⊥) → (held : List ℕ) (limit used : ℕ) (after : List ℕ) (r : Answer)
-        → ((cs : List (List Literal)) → Stands cs sat last vals held (v + 1) → Ended (explore cs limit sizes (length sizes - (v + 1)) (v + 1) used (map given vals)) vals after r)
-        → (cs : List (List Literal)) → Stands cs sat last vals held v → Ended (explore cs limit sizes (length sizes - v) v used (map given vals)) vals after r
-    passed has held limit used after r deep cs s =
+    pub passed : (getD vals v 0 ≡ 16 → ⊥) → (held : List ℕ) (used limit : ℕ) (after : List ℕ) (r : Answer)
+        → Searches sizes sat last vals held (v + 1) used limit after r → Searches sizes sat last vals held v used limit after r
+    passed has held used limit after r deep cs s =
         let is : getD (map given vals) v none ≡ some (getD vals v 0) = here ∙ given-some (getD vals v 0) has in
         moved (explore cs limit sizes (length sizes - v) v used (map given vals)) (explore cs limit sizes (length sizes - (v + 1)) (v + 1) used (map given vals)) vals after r
         (rw more (hop-skip cs limit sizes (length sizes - (v + 1)) v used (map given vals) (getD vals v 0) is))
@@ -105,7 +103,7 @@ module _ (sizes sat last vals₀ held : List ℕ) (v used limit size : ℕ) wher
 
   module _ (vals : List ℕ) (u x : ℕ) (t : Turn vals u x) where
     -- every value was tried
-    pub turn-end : size ≤ x → (cs : List (List Literal)) → Stands cs sat last vals₀ held v → Ended (Says cs) vals₀ (set vals v 16) (Inconsistent u)
+    pub turn-end : size ≤ x → Searches sizes sat last vals₀ held v used limit (set vals v 16) (Inconsistent u)
     unfolding tryValues
     turn-end h cs s =
         let z : size - x ≡ 0 = omega arith in
@@ -116,7 +114,7 @@ module _ (sizes sat last vals₀ held : List ℕ) (v used limit size : ℕ) wher
       left = omega arith
 
       -- no trial is left
-      pub turn-stop : limit ≤ u → (cs : List (List Literal)) → Stands cs sat last vals₀ held v → Ended (Says cs) vals₀ (set vals v 16) (Spent u)
+      pub turn-stop : limit ≤ u → Searches sizes sat last vals₀ held v used limit (set vals v 16) (Spent u)
       turn-stop h cs s = as-spent (Says cs) vals₀ (set vals v 16) u (t .says cs s ∙ rw left (turn-spent cs limit (deeper cs) v a₀ (size - (x + 1)) x u h)) (t .back cs s)
 
       pub value : x < 16
@@ -231,7 +229,7 @@ module _ (sizes sat last vals₀ held : List ℕ) (v used limit size : ℕ) wher
 
         -- the test passed, and the search from the next variable on ended
         module _ (passes : r ≡ true) (after : List ℕ) (b : Answer) (n : ℕ)
-            (deep : (cs : List (List Literal)) → Stands cs sat last (set vals v x) joined (v + 1) → Ended (deeper cs (u + 1) (map given (set vals v x))) (set vals v x) after b) where
+            (deep : Searches sizes sat last (set vals v x) joined (v + 1) (u + 1) limit after b) where
           module _ (cs : List (List Literal)) (s : Stands cs sat last vals₀ held v) where
             ended : Ended (deeper cs (u + 1) (map given (set vals v x))) (set vals v x) after b
             ended = deep cs (stands-set ul row joined r at-row joins covers cs s passes)

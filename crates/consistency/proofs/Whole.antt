@@ -2,19 +2,16 @@
 use mathlib.Core.Path.{_≡_, refl}
 use mathlib.Core.Bool.{true, false}
 use mathlib.Core.List.{List, map}
-use Prim.Native.Nat.{ℕ, _-_, _≤_}
+use Prim.Native.Nat.{ℕ, _-_}
 use native.Mathlib.Omega.{arith}
 use lib.ListN.{length}
-use Rattle.model.specs.Lists.{All}
-use Rattle.model.specs.Sheet.{Literal}
-use Rattle.model.specs.Assignment.{Assignment}
-use Rattle.model.specs.Consistency.{inconsistent, anyFalse, explore}
+use Rattle.model.specs.Consistency.{anyFalse, explore}
 use Rattle.theory.specs.Tables.{clauses}
 use Rattle.theory.proofs.TableClauses.{clauses-length}
 use Rattle.consistency.specs.declared.Answer.{Answer}
 use Rattle.consistency.specs.declared.Answer.the-variants.{Inconsistent}
 use Rattle.consistency.specs.Answers.{given, testOver, Ended}
-use Rattle.consistency.specs.Given.{Tables, Given, Lent, Clauses, Started, Room, Stands}
+use Rattle.consistency.specs.Given.{Tables, Given, Lent, Starts, Room, Searches}
 use Rattle.consistency.proofs.Endings.{as-inconsistent, moved}
 
 module _ (sizes counts lits sat uses vals : List ℕ) (g : Given sizes counts lits sat uses vals) where
@@ -51,8 +48,7 @@ module _ (sizes counts lits sat uses vals : List ℕ) (g : Given sizes counts li
 
     -- none is: the search from variable 0 decides
     pub searched : anyFalse (map given vals) (clauses counts lits) ≡ false → (last held after : List ℕ) (r : Answer)
-        → ((cs : List (List Literal)) → Clauses cs vals sat uses → Started cs vals last held)
-        → ((cs : List (List Literal)) → Stands cs sat last vals held 0 → Ended (explore cs limit sizes (length sizes - 0) 0 used (map given vals)) vals after r)
+        → Starts vals sat uses last held → Searches sizes sat last vals held 0 used limit after r
         → Ended (testOver (clauses counts lits) sizes limit used (map given vals)) vals after r
     unfolding testOver
     searched e last held after r start deep =

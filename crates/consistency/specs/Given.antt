@@ -3,16 +3,17 @@ use mathlib.Core.Path.{_≡_}
 use mathlib.Core.Bool.{false}
 use mathlib.Core.Option.{none}
 use mathlib.Core.List.{List, map}
-use Prim.Native.Nat.{ℕ, _+_, _*_, _<_, _≤_}
+use Prim.Native.Nat.{ℕ, _+_, _-_, _*_, _<_, _≤_}
 use lib.ListN.{length, getD}
 use Rattle.model.specs.Lists.{All}
 use Rattle.model.specs.Sheet.{Literal}
-use Rattle.model.specs.Consistency.{anyFalse}
+use Rattle.model.specs.Consistency.{anyFalse, explore}
 use Rattle.theory.specs.Tables.{clauses, total}
 use Rattle.theory.specs.Search.{mentions, satisfiedAt, satisfied, due}
 use Rattle.theory.proofs.Agreement.{Filled}
-use Rattle.consistency.specs.Answers.{given}
+use Rattle.consistency.specs.Answers.{given, Ended}
 use Rattle.consistency.specs.Sets.{SetOf}
+use Rattle.consistency.specs.declared.Answer.{Answer}
 
 -- ---- the tables
 
@@ -62,6 +63,10 @@ pub record Started (cs : List (List Literal)) (vals last held : List ℕ) : Type
   pub dues : DueFrom cs vals last 0
   pub holds : SetOf (satisfied (map given vals)) cs held 0
 
+-- for any clauses that the tables are made of
+abbrev pub Starts : (vals sat uses last held : List ℕ) → Type 0
+Starts vals sat uses last held = (cs : List (List Literal)) → Clauses cs vals sat uses → Started cs vals last held
+
 -- ---- the search at the variable v
 
 -- the room that it has
@@ -81,3 +86,9 @@ pub record Stands (cs : List (List Literal)) (sat last vals held : List ℕ) (v 
   pub holds : SetOf (satisfied (map given vals)) cs held 0
   pub filled : Filled v (map given vals)
   pub clear : anyFalse (map given vals) cs ≡ false
+
+-- for any clauses with which it stands there, it ends as the model's search through the variables from v on
+abbrev pub Searches : (sizes sat last vals held : List ℕ) (v used limit : ℕ) (after : List ℕ) → Answer → Type 0
+Searches sizes sat last vals held v used limit after r =
+    (cs : List (List Literal)) → Stands cs sat last vals held v
+    → Ended (explore cs limit sizes (length sizes - v) v used (map given vals)) vals after r

@@ -7,7 +7,7 @@ use lib.Dec.{eqb}
 use lib.ListN.{getD}
 use Rattle.model.specs.Sheet.{Literal}
 use Rattle.model.specs.Consistency.{holdsAt}
-use Rattle.theory.specs.Search.{nth, satisfiedAt}
+use Rattle.theory.specs.Search.{nth, mentions, satisfiedAt}
 
 -- the bit k of a word, counted from the lowest
 unfoldable pub bit : ℕ → ℕ → Bool
@@ -46,3 +46,8 @@ literalRows variable sign value r = eqb variable (r / 16) && holdsAt (r % 16) si
 
 unfoldable pub clauseRows : List Literal → ℕ → Bool
 clauseRows ls r = satisfiedAt (r / 16) (r % 16) ls
+
+-- the clause c with these literals was put into its rows of both tables
+pub record Entered (ls : List Literal) (c : ℕ) (sat uses sat′ uses′ : List ℕ) : Type 0 where
+  pub satisfies : Marked (clauseRows ls) sat c sat′
+  pub mentioned : Marked (λ v. mentions v ls) uses c uses′

@@ -4,9 +4,10 @@
 // makes the sets of a plant once, and `search` keeps the set of the clauses that are satisfied so far. A variable's value
 // is a byte, and 16 says that it is unassigned.
 pub mod clauses;
-pub mod sets;
+mod search;
+mod sets;
 pub mod tables;
-pub mod search;
+
 use clauses::any_false;
 ghost use Rattle.theory.specs.Tables.{clauses};
 ghost use mathlib.Core.List.{map};

@@ -1,19 +1,16 @@
 // The search through the variables, with the set of the clauses that are satisfied so far.
 use super::Answer;
 use super::clauses::wide;
-use super::sets::{covers, joined, joined_if, store_less};
-ghost use mathlib.Core.List.{List, map};
-ghost use Prim.Native.Nat.{_-_};
-ghost use lib.ListN.{length};
-ghost use Rattle.model.specs.Sheet.{Literal};
-ghost use Rattle.model.specs.Consistency.{explore};
-ghost use Rattle.consistency.specs.Answers.{given, Ended};
-ghost use Rattle.consistency.specs.Given.{Lent, Clauses, Started, Room, Stands};
+use super::sets::covers;
+use super::sets::joined;
+use super::sets::joined_if;
+use super::sets::store_less;
+ghost use Rattle.consistency.specs.Given.{Lent, Starts, Room, Searches};
 
 // Stores in each row of `last` the clauses that are due at its variable, and returns those that are satisfied.
 pub fn start(vals: &[u8], sat: &[u64], uses: &[u64], last: &mut [u64]) -> [u64; 8]
     requires { ⌜ Lent (now vals) (now sat) (now uses) (now last) ⌝ }
-    ensures { λ r. ⌜ ((cs : List (List Literal)) → Clauses cs (now (vals .entry)) (now (sat .entry)) (now (uses .entry)) → Started cs (now (vals .entry)) (now (last .exit)) r) ⌝ }
+    ensures { λ r. ⌜ Starts (now (vals .entry)) (now (sat .entry)) (now (uses .entry)) (now (last .exit)) r ⌝ }
 {
     let mut held = [0u64; 8];
     let mut free = [0u64; 8];
@@ -42,7 +39,7 @@ pub fn search(
     limit: u32,
 ) -> Answer
     requires { ⌜ Room (now sizes) (now sat) (now last) (now vals) v ⌝ }
-    ensures { λ r. ⌜ ((cs : List (List Literal)) → Stands cs (now (sat .entry)) (now (last .entry)) (now (vals .entry)) held v → Ended (explore cs limit (now (sizes .entry)) (length (now (sizes .entry)) - v) v used (map given (now (vals .entry)))) (now (vals .entry)) (now (vals .exit)) r) ⌝ }
+    ensures { λ r. ⌜ Searches (now (sizes .entry)) (now (sat .entry)) (now (last .entry)) (now (vals .entry)) held v used limit (now (vals .exit)) r ⌝ }
 {
     if v == sizes.len() {
         return Answer::Consistent(used);

@@ -6,6 +6,9 @@ ghost use lib.ListN.{length};
 ghost use lib.Dec.{eqb};
 ghost use Rattle.consistency.specs.Sets.{Joined, Covers, Less, Marked};
 
+// The words of a set, and of a row.
+const WORDS: usize = 8;
+
 // The set with the clauses of the row added.
 pub fn joined(set: [u64; 8], table: &[u64], row: usize) -> [u64; 8]
     requires { ⌜ row * 8 + 8 ≤ length (now table) ⌝ }
@@ -13,7 +16,7 @@ pub fn joined(set: [u64; 8], table: &[u64], row: usize) -> [u64; 8]
 {
     let mut out = set;
     let mut k = 0;
-    while k < 8 {
+    while k < WORDS {
         out[k] = out[k] | table[row * 8 + k];
         k += 1;
     }
@@ -37,7 +40,7 @@ pub fn covers(table: &[u64], row: usize, set: [u64; 8]) -> bool
     ensures { λ r. ⌜ Covers (now (table .entry)) row set r ⌝ }
 {
     let mut k = 0;
-    while k < 8 {
+    while k < WORDS {
         let due = table[row * 8 + k];
         if due & set[k] != due {
             return false;
@@ -53,7 +56,7 @@ pub fn store_less(to: &mut [u64], table: &[u64], row: usize, set: [u64; 8])
     ensures { λ r. ⌜ Less (now (to .entry)) (now (table .entry)) row set (now (to .exit)) ⌝ }
 {
     let mut k = 0;
-    while k < 8 {
+    while k < WORDS {
         let at = row * 8 + k;
         to[at] = table[at] ^ (table[at] & set[k]);
         k += 1;

@@ -1,14 +1,14 @@
 // The two tables of sets that are made once for a plant: `sat` has a row for each variable and value, the clauses that it
 // satisfies; `uses` has a row for each variable, the clauses that mention it.
-use super::clauses::{holds, wide};
+use super::clauses::holds;
+use super::clauses::wide;
 use super::sets::add;
 ghost use mathlib.Core.Path.{_≡_};
 ghost use Prim.Native.Nat.{ℕ, _<_, _≤_};
 ghost use lib.ListN.{length, getD};
 ghost use Rattle.model.specs.Lists.{All};
 ghost use Rattle.theory.specs.Tables.{literals, clauses};
-ghost use Rattle.theory.specs.Search.{mentions};
-ghost use Rattle.consistency.specs.Sets.{Marked, literalRows, clauseRows};
+ghost use Rattle.consistency.specs.Sets.{Marked, literalRows, Entered};
 ghost use Rattle.consistency.specs.Given.{Tables, Prepared};
 
 // Empties every row.
@@ -39,7 +39,7 @@ fn mark(sat: &mut [u64], var: usize, sign: u8, value: u8, c: usize)
 // Puts the clause c, whose literals the part holds, into its rows of both tables.
 fn mark_clause(sat: &mut [u64], uses: &mut [u64], part: &[u8], c: usize)
     requires { ⌜ All (λ l. l .variable < 48) (literals (now part)) × (6144 ≤ length (now sat)) × (384 ≤ length (now uses)) × (c < 512) ⌝ }
-    ensures { λ r. ⌜ Marked (clauseRows (literals (now (part .entry)))) (now (sat .entry)) c (now (sat .exit)) × Marked (λ v. mentions v (literals (now (part .entry)))) (now (uses .entry)) c (now (uses .exit)) ⌝ }
+    ensures { λ r. ⌜ Entered (literals (now (part .entry))) c (now (sat .entry)) (now (uses .entry)) (now (sat .exit)) (now (uses .exit)) ⌝ }
 {
     let mut i = 0;
     while i + 2 < part.len() {

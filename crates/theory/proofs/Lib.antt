@@ -1,6 +1,7 @@
 pub mod Agreement
 pub mod BestFirst
 pub mod BruteForce
+pub mod Children
 pub mod Containment
 pub mod Corollaries
 pub mod Demand3

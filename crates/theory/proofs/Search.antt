@@ -1,6 +1,5 @@
 -- A trial decided by sets of clauses: where no clause was false, one is false after it exactly if a clause that is due at the variable is not satisfied. Assumes nothing.
 use mathlib.Core.Path.{_≡_, refl, sym, ap, ap₂, _∙_}
-use mathlib.Core.Logic.{inl, inr}
 use mathlib.Core.Bool.{Bool, true, false, not, _&&_, _||_, true≢false, false≢true}
 use mathlib.Core.Option.{Option, none, some}
 use mathlib.Core.List.{List, [], _∷_}
@@ -17,7 +16,7 @@ use Rattle.model.specs.Sheet.{Literal}
 use Rattle.model.specs.Assignment.{Assignment, isSome, nibble}
 use Rattle.model.specs.Consistency.{holdsAt, literalFails, clauseFalse, anyFalse}
 use Rattle.theory.specs.Search.{isFree, holdsUnder, anyAt, anyFrom, mentions, satisfiedAt, satisfied, satisfiedFrom, waits, due, nth}
-use Rattle.theory.proofs.Lists.{all-map, all-any, and-both, or-neither}
+use Rattle.theory.proofs.Lists.{all-map, all-any, or-neither}
 use Rattle.theory.proofs.Agreement.{Filled, filled-more, filled-set}
 
 -- ---- whether some member passes a test
@@ -277,7 +276,8 @@ due-past a v cs c h = rw (List·getD-eq-default cs [] {n = c} h)
 
 module _ (cs : List (List Literal)) (a : Assignment) (v x : ℕ) (inside : v < length a) (free : getD a v none ≡ none) (filled : Filled v a) where
   -- no clause is false after the trial if each that is due at v is satisfied
-  pub trial-clear : anyFalse a cs ≡ false → ((c : ℕ) → c < length cs → due a v (nth cs c) ≡ true → satisfied (set a v (some x)) (nth cs c) ≡ true) → anyFalse (set a v (some x)) cs ≡ false
+  pub trial-clear : anyFalse a cs ≡ false
+      → ((c : ℕ) → c < length cs → due a v (nth cs c) ≡ true → satisfied (set a v (some x)) (nth cs c) ≡ true) → anyFalse (set a v (some x)) cs ≡ false
   trial-clear e h = nth-any (set a v (some x)) cs (λ c l. clause-clear a v x inside free filled (nth cs c) (any-nth a cs e c l) (h c l))
 
   -- and only then

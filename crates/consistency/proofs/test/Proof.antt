@@ -1,5 +1,5 @@
 -- `test` meets its contract: the first question is decided by `any_false`, the rest by the search from variable 0 with the sets that `start` makes. Assumes nothing.
-use mathlib.Core.Path.{_≡_, refl, sym, _∙_}
+use mathlib.Core.Path.{refl, sym, _∙_}
 use Rattle.consistency.proofs.Whole.{tables-vals, lent-first, room-first, at-once, searched}
 use borrow.Author.Needs.{needs}
 use Rattle.consistency.proofs.test.Statement.{statement}
@@ -32,7 +32,8 @@ same-length-2 c = c .before .before .search .kept .1 .1 .1 .0
 returns-2 : tie.Need-returns-2
 returns-2 c =
     let s = c .before .before .before .before .before .before .before .before .before .before .before .before .before .before .before .before .before .before in
-    searched _ _ _ _ _ _ (s .pre) _ _ (sym (c .before .before .before .before .before .before .before .before .before .before .any-false .ensures) ∙ c .before .before .before .before .before .before .before .before .before .if1 .left)
+    searched _ _ _ _ _ _ (s .pre) _ _
+    (sym (c .before .before .before .before .before .before .before .before .before .before .any-false .ensures) ∙ c .before .before .before .before .before .before .before .before .before .if1 .left)
     _ _ _ _ (c .before .before .before .before .before .before .start .ensures) (c .before .before .search .ensures)
 
 pub test-spec : {M : Type 1} → statement M

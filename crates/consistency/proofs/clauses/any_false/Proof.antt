@@ -70,8 +70,10 @@ loop-again c =
     let h = c .before .before .before .before .before .before .loop in
     let lt = c .before .before .before .before .before .loop-test .taken in
     let x = c .before .before .before .wide in
-    let e : h .at + 3 * x .result - h .at ≡ 3 * x .result = omega arith in
-    (rw (x .ensures) (along-next _ _ _ _ _ (h .inv .0) lt), h .inv .1 ∙ any-step _ _ _ _ _ _ (h .inv .0) lt _ (rw (e, x .ensures) at (c .before .clause-false .ensures)) ∙ rw (c .if1 .left))
+    let e : h .at + 3 * x .result - h .at ≡ 3 * x .result = omega arith in (
+      rw (x .ensures) (along-next _ _ _ _ _ (h .inv .0) lt),
+      h .inv .1 ∙ any-step _ _ _ _ _ _ (h .inv .0) lt _ (rw (e, x .ensures) at (c .before .clause-false .ensures)) ∙ rw (c .if1 .left),
+    )
 
 returns-2 : tie.Need-returns-2 Inv-loop μ-loop
 returns-2 c = sym (c .before .loop .inv .1 ∙ any-end _ _ _ _ _ _ (c .before .loop .inv .0) (c .loop-test .left))

@@ -1,5 +1,5 @@
 -- `search::search` meets its contract. The loop over the values of v: `Turn`, and each way out of a turn is a law of `Turns`. Assumes nothing.
-use mathlib.Core.Path.{_≡_, refl, _∙_}
+use mathlib.Core.Path.{refl, _∙_}
 use mathlib.Core.Logic.{⊎-elim}
 use Prim.Native.Nat.{ℕ, _-_, _<_}
 use native.Mathlib.Omega.{arith}
@@ -169,7 +169,8 @@ module _ (t : ℕ) where
       let ul = k .before .before .before .if3 .left in
       let e = k .before .before .wide .ensures in
       ⊎-elim
-      (λ w. deep-again _ _ _ _ _ _ _ _ _ _ _ _ h lt ul _ _ _ (rw e) (k .before .joined .ensures) (k .covers .ensures) (w .0 .taken) _ _ _ (w .2 .ensures) (w .6 .given .1) (w .2 .kept .1 .1 .1 .0) _ _ (w .8) (w .9))
+      (λ w. deep-again _ _ _ _ _ _ _ _ _ _ _ _ h lt ul _ _ _ (rw e) (k .before .joined .ensures) (k .covers .ensures) (w .0 .taken)
+      _ _ _ (w .2 .ensures) (w .6 .given .1) (w .2 .kept .1 .1 .1 .0) _ _ (w .8) (w .9))
       (λ w. turn-again _ _ _ _ _ _ _ _ _ _ _ _ h lt ul _ _ _ (rw e) (k .before .joined .ensures) (k .covers .ensures) (w .0 .left) _ _ (w .1) (w .2))
       (c .if4 .came)
 

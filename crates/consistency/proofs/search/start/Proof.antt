@@ -1,7 +1,7 @@
 -- `search::start` meets its contract. The loop, from the last variable down: the sets are those of the variables from v on. Assumes nothing.
-use mathlib.Core.Path.{_≡_, refl, sym, _∙_}
+use mathlib.Core.Path.{_≡_, refl, _∙_}
 use mathlib.Core.List.{List}
-use Prim.Native.Nat.{ℕ, _+_, _-_, _*_, _≤_, _<_}
+use Prim.Native.Nat.{_+_, _-_, _≤_}
 use lib.ListN.{length}
 use Rattle.model.specs.Sheet.{Literal}
 use Rattle.consistency.specs.Given.{Lent, Clauses}
@@ -67,7 +67,8 @@ loop-again c =
       omega arith,
       m .kept .0 ∙ h .inv .1,
       h .inv .2,
-      λ cs k. from-next _ _ _ (h .v - 1) (h .inv .2 .few) (omega arith) (h .inv .2 .bytes (h .v - 1)) _ _ _ _ (m .ensures) _ (rw (c .before .wide .ensures)) _ _ (c .before .before .joined-if .ensures) (c .joined-if2 .ensures) cs k (rw e at (h .inv .3 cs k)),
+      λ cs k. from-next _ _ _ (h .v - 1) (h .inv .2 .few) (omega arith) (h .inv .2 .bytes (h .v - 1)) _ _ _ _ (m .ensures)
+          _ (rw (c .before .wide .ensures)) _ _ (c .before .before .joined-if .ensures) (c .joined-if2 .ensures) cs k (rw e at (h .inv .3 cs k)),
     )
 
 same-length : tie.Need-same-length Inv-loop μ-loop

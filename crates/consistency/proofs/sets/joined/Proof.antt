@@ -1,7 +1,6 @@
 -- `sets::joined` meets its contract. The loop: the words before k are joined, and those from k on are as they were. Assumes nothing.
 use mathlib.Core.Path.{_≡_}
 use Prim.Native.Nat.{_-_, _≤_}
-use lib.ListN.{length}
 use Rattle.consistency.proofs.Rows.{Joining, joining-first, joining-step, joining-end}
 use native.Mathlib.Omega.{arith}
 use Rattle.consistency.proofs.sets.joined.Statement.{statement}

@@ -1,6 +1,6 @@
 -- `sets::joined_if` meets its contract: one case for each way. Assumes nothing.
-use mathlib.Core.Path.{_≡_, refl, sym, _∙_}
-use mathlib.Core.Bool.{Bool, true, false, _&&_, _||_}
+use mathlib.Core.Path.{_≡_, refl, sym}
+use mathlib.Core.Bool.{Bool, true, false, _||_}
 use Rattle.consistency.proofs.sets.joined_if.Statement.{statement}
 use Rattle.consistency.proofs.sets.joined_if.Tie as tie
 

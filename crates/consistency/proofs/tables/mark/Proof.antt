@@ -48,7 +48,8 @@ loop-again c =
     (λ k. (
       omega arith,
       ap length (k .6) ∙ k .3 .kept .0 ∙ h .inv .1,
-      rw (k .6) (marking-step _ _ _ _ _ _ _ _ (h .inv .2) (k .3 .ensures) (λ r. rw (k .2 .ensures) (rows-hold (s .var) (s .sign) (s .value) (h .x) r (omega arith) (sym (c .before .holds .ensures) ∙ k .0 .taken)))),
+      rw (k .6) (marking-step _ _ _ _ _ _ _ _ (h .inv .2) (k .3 .ensures)
+          (λ r. rw (k .2 .ensures) (rows-hold (s .var) (s .sign) (s .value) (h .x) r (omega arith) (sym (c .before .holds .ensures) ∙ k .0 .taken)))),
     ))
     (λ k. (
       omega arith,

@@ -91,7 +91,10 @@ same-length-2 c = c .before .loop .inv .2
 returns : tie.Need-returns Inv-loop μ-loop
 returns c =
     let h = c .before .loop in
-    (marking-end _ _ _ _ _ (h .inv .4) (rows-none _ (h .i) (c .loop-test .left)), marking-end _ _ _ _ _ (h .inv .5) (mentions-none _ (h .i) (c .loop-test .left)))
+    record {
+      satisfies = marking-end _ _ _ _ _ (h .inv .4) (rows-none _ (h .i) (c .loop-test .left));
+      mentioned = marking-end _ _ _ _ _ (h .inv .5) (mentions-none _ (h .i) (c .loop-test .left));
+    }
 
 pub mark-clause-spec : {M : Type 1} → statement M
 mark-clause-spec =

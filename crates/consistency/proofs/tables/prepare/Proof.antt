@@ -68,7 +68,9 @@ loop-again c =
     let x = c .before .before .before .before .before .before .before .before .wide in
     let m = c .before .before .before .before .mark-clause in
     let e : h .at + 3 * x .result - h .at ≡ 3 * x .result = omega arith in
-    rw (x .ensures) (filling-next _ _ _ _ _ _ _ _ (h .inv) (c .before .before .before .before .before .before .before .before .before .before .loop-test .taken) _ _ (m .kept .0) (m .kept .1 .0) (rw (e, x .ensures) at (m .ensures .0)) (rw (e, x .ensures) at (m .ensures .1)))
+    rw (x .ensures)
+    (filling-next _ _ _ _ _ _ _ _ (h .inv) (c .before .before .before .before .before .before .before .before .before .before .loop-test .taken)
+    _ _ (m .kept .0) (m .kept .1 .0) (rw (e, x .ensures) at (m .ensures)))
 
 same-length : tie.Need-same-length Inv-loop μ-loop
 same-length c = c .before .loop .inv .sat-same ∙ c .before .before .before .before .before .before .before .before .clear .kept .0
