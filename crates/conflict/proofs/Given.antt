@@ -1,0 +1,87 @@
+-- From the tables of a plant and two words to what the consistency test is given, and from what it answers to the model's test. Assumes nothing.
+use mathlib.Core.Path.{_≡_, sym, ap, _∙_}
+use mathlib.Core.Option.{Option, none}
+use mathlib.Core.List.{List, _++_, map}
+use Prim.Native.Nat.{ℕ, _-_, _≤_}
+use native.Mathlib.Omega.{arith}
+use native.Mathlib.Decide.{decLt}
+use lib.ListN.{length, getD, replicate, length-drop, length-map, length-append, length-replicate, List·getD-eq-default}
+use Rattle.model.specs.Sheet.{Plant, edition1, decisionSizes}
+use Rattle.model.specs.Assignment.{Assignment, Valid, assignmentOf}
+use Rattle.model.specs.Consistency.{test, overAll}
+use Rattle.theory.specs.Plant.{Sized}
+use Rattle.theory.specs.Tables.{clauses, Tabled}
+use Rattle.theory.specs.Words.{Words, byte}
+use Rattle.theory.proofs.Lists.{all-join, all-at}
+use Rattle.theory.proofs.Agreement.{valid-length}
+use Rattle.theory.proofs.Tables.{tabled-count, tabled-few, tabled-sizes, tabled-clauses, tabled-sized}
+use Rattle.theory.proofs.Words.{words-hold, assignment-length, assignment-small}
+use Rattle.consistency.specs.declared.Answer.{Answer}
+use Rattle.consistency.specs.Answers.{given, testOver, Ended}
+use Rattle.consistency.specs.Given.{Prepared, Given}
+use Rattle.consistency.proofs.Callers.{plant-tables, plant-ended}
+use Rattle.conflict.specs.Given.{Limits, Ready}
+use Rattle.conflict.proofs.Bytes.{small-behind, byte-most}
+
+-- ---- what a plant's tables give
+
+module _ {p : Plant} {d : ℕ} {domains costs counts lits : List ℕ} (t : Tabled p d domains costs counts lits) where
+  tabled-states : length (p .states) ≡ length domains - d
+  tabled-states = ap (λ (q : Plant). length (q .states)) (t .plant) ∙ length-drop d domains
+
+  -- the tables of a plant are within the limits
+  pub tabled-limits : Limits d domains counts lits
+  unfolding edition1
+  tabled-limits = record {
+    decisions = tabled-few t;
+    present = t .decisions;
+    few = omega (arith, tabled-few t, t .accepted .states, tabled-states);
+    small = small;
+    tables = plant-tables p (t .accepted) domains counts lits (tabled-sizes t) (tabled-clauses t) (t .literal-room);
+  }
+    where
+      small : (v : ℕ) → getD domains v 0 ≤ 16
+      small v = elim (decLt v (length domains)) [
+        | yes h ↦ all-at 0 Sized domains (rw (tabled-sizes t) at (all-join Sized (decisionSizes p) (p .states) (tabled-sized t) (t .accepted .state-sizes))) v h .1
+        | no h ↦ rw (List·getD-eq-default domains 0 {n = v} (omega arith)) (omega arith)
+      ]
+
+  -- with the sets made of them, and a byte for each variable, they are ready for the test
+  pub tabled-ready : {sat uses vals : List ℕ} → Prepared (clauses counts lits) sat uses → length vals ≡ length domains → Ready d domains counts lits sat uses vals
+  tabled-ready r e = record { limits = tabled-limits; prepared = r; same = e }
+
+  -- the two words, filled up for the state variables, hold the assignment to all variables
+  pub tabled-over : (a : Assignment) {mask values : ℕ} → Words a mask values → Valid (decisionSizes p) a
+      → assignmentOf d mask values ++ replicate (length domains - d) none ≡ overAll p a
+  tabled-over a {mask} {values} w v =
+      let l : length a ≡ d = valid-length (decisionSizes p) a v ∙ length-map (p .costs) length ∙ tabled-count t in
+      rw (← l, words-hold a mask values w, l, ← tabled-states)
+
+-- ---- what the consistency test is given
+
+-- another buffer of the same length serves as well
+pub ready-again : {d : ℕ} {domains counts lits sat uses vals after : List ℕ} → Ready d domains counts lits sat uses vals → length after ≡ length vals → Ready d domains counts lits sat uses after
+ready-again r e = record { limits = r .limits; prepared = r .prepared; same = e ∙ r .same }
+
+module _ {d : ℕ} {domains counts lits sat uses vals : List ℕ} (r : Ready d domains counts lits sat uses vals) (mask values : ℕ)
+    {filled : List ℕ} (e : filled ≡ map byte (assignmentOf d mask values ++ replicate (length vals - d) none)) where
+  -- the bytes of two words are what it asks for
+  pub ready-given : Given domains counts lits sat uses filled
+  ready-given = record {
+    few = r .limits .few;
+    small = r .limits .small;
+    same = ap length e
+        ∙ length-map (assignmentOf d mask values ++ replicate (length vals - d) none) byte
+        ∙ length-append (assignmentOf d mask values) (replicate (length vals - d) none)
+        ∙ (omega (arith, assignment-length d mask values (r .limits .decisions), length-replicate {A = Option ℕ} (length vals - d) none, r .same, r .limits .present));
+    bytes = rw e (byte-most (assignmentOf d mask values ++ replicate (length vals - d) none) (small-behind (assignmentOf d mask values) (length vals - d) (assignment-small d mask values)));
+    tables = r .limits .tables;
+    ready = r .prepared;
+  }
+
+  -- and it ends on them as the model's test of the assignment does
+  pub ready-ended : {p : Plant} {costs : List ℕ} → Tabled p d domains costs counts lits → (a : Assignment) → Words a mask values → Valid (decisionSizes p) a
+      → (limit used : ℕ) (after : List ℕ) (q : Answer) → Ended (testOver (clauses counts lits) domains limit used (map given filled)) filled after q → Ended (test p limit a used) (map byte (overAll p a)) after q
+  ready-ended {p} t a w v limit used after q h =
+      let o : filled ≡ map byte (overAll p a) = e ∙ rw (r .same, tabled-over t a w v) in
+      rw o at (plant-ended p (t .accepted) domains counts lits (tabled-sizes t) (tabled-clauses t) (t .literal-room) a v filled o limit used after q h)

@@ -1,0 +1,21 @@
+-- What the test and the reduction of two words are given. Assumes nothing: these are definitions.
+use mathlib.Core.Path.{_≡_}
+use mathlib.Core.List.{List}
+use Prim.Native.Nat.{ℕ, _≤_}
+use lib.ListN.{length, getD}
+use Rattle.theory.specs.Tables.{clauses}
+use Rattle.consistency.specs.Given.{Tables, Prepared}
+
+-- tables within the limits: at most 16 decision variables among at most 48, at most 16 values each, and their clauses
+pub record Limits (d : ℕ) (sizes counts lits : List ℕ) : Type 0 where
+  pub decisions : d ≤ 16
+  pub present : d ≤ length sizes
+  pub few : length sizes ≤ 48
+  pub small : (v : ℕ) → getD sizes v 0 ≤ 16
+  pub tables : Tables (length sizes) counts lits
+
+-- with the sets of clauses that are made of them, and a byte for each variable
+pub record Ready (d : ℕ) (sizes counts lits sat uses vals : List ℕ) : Type 0 where
+  pub limits : Limits d sizes counts lits
+  pub prepared : Prepared (clauses counts lits) sat uses
+  pub same : length vals ≡ length sizes

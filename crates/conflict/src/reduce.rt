@@ -1,0 +1,96 @@
+// The reduction of a conflict that is given by its two words.
+use super::tests::tested;
+use consistency::Answer;
+ghost use mathlib.Core.List.{List};
+ghost use Prim.Native.Nat.{ℕ, _<_};
+ghost use Rattle.model.specs.Sheet.{Plant, decisionSizes};
+ghost use Rattle.model.specs.Assignment.{Assignment, Valid};
+ghost use Rattle.model.specs.Conflict.{reduce};
+ghost use Rattle.theory.specs.Tables.{Tabled};
+ghost use Rattle.theory.specs.Words.{Words};
+ghost use Rattle.conflict.specs.Given.{Ready};
+ghost use Rattle.conflict.specs.Reduced.{Turned, Reduces};
+
+// How a reduction ends, with the trials made so far: the conflict's two words, or 'spent'.
+pub enum Reduced {
+    Conflict(u64, u64, u32),
+    Spent(u32),
+}
+
+// One turn: tests the rest without the variable v, if it is a member, and leaves v out where the rest is inconsistent.
+fn without(
+    d: usize,
+    sizes: &[u8],
+    counts: &[u8],
+    lits: &[u8],
+    sat: &[u64],
+    uses: &[u64],
+    vals: &mut [u8],
+    mask: u64,
+    values: u64,
+    v: usize,
+    used: u32,
+    limit: u32,
+) -> Reduced
+    requires { ⌜ Ready d (now sizes) (now counts) (now lits) (now sat) (now uses) (now vals) × (v < d) ⌝ }
+    ensures { λ r. ⌜ ((p : Plant) (costs : List ℕ) (c : Assignment) → Tabled p d (now (sizes .entry)) costs (now (counts .entry)) (now (lits .entry)) → Words c mask values → Valid (decisionSizes p) c → Turned p limit v c used r) ⌝ }
+{
+    if !words::is_assigned(mask, v) {
+        return Reduced::Conflict(mask, values, used);
+    }
+    let rest = words::remove(mask, values, v);
+    match tested(
+        d,
+        sizes,
+        counts,
+        lits,
+        sat,
+        uses,
+        vals,
+        rest.mask,
+        rest.values,
+        used,
+        limit,
+    ) {
+        Answer::Consistent(t) => Reduced::Conflict(mask, values, t),
+        Answer::Inconsistent(t) => Reduced::Conflict(rest.mask, rest.values, t),
+        Answer::Spent(t) => Reduced::Spent(t),
+    }
+}
+
+// Reduces the conflict that the two words hold, which is not tested again, with `used` trials made before.
+pub fn reduce(
+    d: usize,
+    sizes: &[u8],
+    counts: &[u8],
+    lits: &[u8],
+    sat: &[u64],
+    uses: &[u64],
+    vals: &mut [u8],
+    mask: u64,
+    values: u64,
+    used: u32,
+    limit: u32,
+) -> Reduced
+    requires { ⌜ Ready d (now sizes) (now counts) (now lits) (now sat) (now uses) (now vals) ⌝ }
+    ensures { λ r. ⌜ ((p : Plant) (costs : List ℕ) (a : Assignment) → Tabled p d (now (sizes .entry)) costs (now (counts .entry)) (now (lits .entry)) → Words a mask values → Valid (decisionSizes p) a → Reduces p (reduce p limit a used) r) ⌝ }
+{
+    let mut m = mask;
+    let mut x = values;
+    let mut u = used;
+    let mut v = 0;
+    while v < d {
+        match without(d, sizes, counts, lits, sat, uses, vals, m, x, v, u, limit) {
+            Reduced::Spent(t) => {
+                return Reduced::Spent(t);
+            }
+            Reduced::Conflict(left, held, t) => {
+                m = left;
+                x = held;
+                u = t;
+            }
+        }
+        v += 1;
+    }
+    Reduced::Conflict(m, x, u)
+}

@@ -1,0 +1,59 @@
+// The consistency test of an assignment to the decision variables that is given by its two words.
+use consistency::Answer;
+ghost use mathlib.Core.Path.{_≡_};
+ghost use mathlib.Core.List.{List, _++_, map};
+ghost use mathlib.Core.Option.{none};
+ghost use Prim.Native.Nat.{ℕ, _-_, _≤_};
+ghost use lib.ListN.{length, getD, replicate};
+ghost use Rattle.model.specs.Sheet.{Plant, decisionSizes};
+ghost use Rattle.model.specs.Assignment.{Assignment, Valid, assignmentOf};
+ghost use Rattle.model.specs.Consistency.{test, overAll};
+ghost use Rattle.theory.specs.Tables.{Tabled};
+ghost use Rattle.theory.specs.Words.{Words, byte};
+ghost use Rattle.consistency.specs.Answers.{Ended};
+ghost use Rattle.conflict.specs.Given.{Ready};
+
+// The byte of the variable v, of which the first d are decision variables.
+fn byte_at(d: usize, mask: u64, values: u64, v: usize) -> u8
+    requires { ⌜ d ≤ 16 ⌝ }
+    ensures { λ r. ⌜ r ≡ byte (getD (assignmentOf d mask values) v none) ⌝ }
+{
+    if v < d {
+        return words::value(mask, values, v);
+    }
+    16
+}
+
+// Fills the bytes of all variables from the two words: a decision variable's value, or 16 where it has none, and 16 for each state variable.
+fn fill(vals: &mut [u8], d: usize, mask: u64, values: u64)
+    requires { ⌜ (d ≤ 16) × (d ≤ length (now vals)) ⌝ }
+    ensures { λ _. ⌜ now (vals .exit) ≡ map byte (assignmentOf d mask values ++ replicate (length (now (vals .entry)) - d) none) ⌝ }
+{
+    let mut v = 0;
+    while v < vals.len() {
+        vals[v] = byte_at(d, mask, values, v);
+        v += 1;
+    }
+}
+
+// The test of the assignment that the two words hold, with `used` trials made before; where it is consistent, `vals` holds the values found.
+pub fn tested(
+    d: usize,
+    sizes: &[u8],
+    counts: &[u8],
+    lits: &[u8],
+    sat: &[u64],
+    uses: &[u64],
+    vals: &mut [u8],
+    mask: u64,
+    values: u64,
+    used: u32,
+    limit: u32,
+) -> Answer
+    requires { ⌜ Ready d (now sizes) (now counts) (now lits) (now sat) (now uses) (now vals) ⌝ }
+    ensures { λ r. ⌜ ((p : Plant) (costs : List ℕ) (a : Assignment) → Tabled p d (now (sizes .entry)) costs (now (counts .entry)) (now (lits .entry)) → Words a mask values → Valid (decisionSizes p) a
+        → Ended (test p limit a used) (map byte (overAll p a)) (now (vals .exit)) r) ⌝ }
+{
+    fill(vals, d, mask, values);
+    consistency::test(sizes, counts, lits, sat, uses, vals, used, limit)
+}
