@@ -3,3 +3,4 @@ pub mod Numbers
 pub mod Putting
 pub mod Walk
 pub mod Members
+pub mod Callers

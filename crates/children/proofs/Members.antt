@@ -11,7 +11,6 @@ use Rattle.model.specs.Assignment.{Assignment, Under, Valid}
 use Rattle.model.specs.Order.{orderOf}
 use Rattle.model.specs.Listing.{resolving}
 use Rattle.theory.specs.Words.{Words, byte}
-use Rattle.theory.proofs.Agreement.{valid-length}
 use Rattle.theory.proofs.Children.{resolvingFrom, resolving-start, resolving-end, resolving-held, resolving-free, resolving-here}
 use Rattle.children.specs.Children.{NodeIs, Tables, Free, Step, Puts, variants, member}
 use Rattle.children.specs.declared.Node.{Node}
@@ -56,6 +55,7 @@ module _ {node : Node} {queue : List ℕ} {n : ℕ} {store : List ℕ} {m : ℕ}
     midway-end e = rw (h .parts, resolving-end (decisionSizes (s .plant)) (h .held) c v (omega (arith, length-map (s .plant .costs) length, count-is t)), append-nil (h .made)) (h .put)
 
     module _ (e : length after ≡ length queue) (l : v < d) where
+      -- there are d domains
       domains : length (decisionSizes (s .plant)) ≡ d
       domains = length-map (s .plant .costs) length ∙ count-is t
 
@@ -65,6 +65,7 @@ module _ {node : Node} {queue : List ℕ} {n : ℕ} {store : List ℕ} {m : ℕ}
 
       module _ (y : ℕ) (mask values : ℕ) (w : Words c mask values)
           (told : (a b : Assignment) (others : ℕ) → Words a (passed .mask) others → Words b mask values → length a ≡ length b → v < length a → y ≡ byte (member (getD a v none) (getD b v none))) where
+        -- what `wanted` told
         byte-is : y ≡ byte (member (getD (h .held) v none) (getD c v none))
         byte-is = told (h .held) c _ (words-are (h .is)) w (long-is t (h .held) (h .is .valid) ∙ sym (long-is t c valid)) (omega (arith, long-is t (h .held) (h .is .valid)))
 
@@ -78,6 +79,7 @@ module _ {node : Node} {queue : List ℕ} {n : ℕ} {store : List ℕ} {m : ℕ}
             go none (some x) f g b = absurd (omega (arith, at-most (s .plant) (s .is .accepted) v, rw g at (valid-at (decisionSizes (s .plant)) c v valid (omega (arith, domains)))))
 
         module _ (k : y < 16) where
+          -- the node has no value and the conflict has y
           free-is : (getD (h .held) v none ≡ none) × (getD c v none ≡ some y)
           free-is = member-some (getD (h .held) v none) (getD c v none) y byte-is k
 
@@ -89,6 +91,7 @@ module _ {node : Node} {queue : List ℕ} {n : ℕ} {store : List ℕ} {m : ℕ}
           pub here-small : y < getD (decisionSizes (s .plant)) v 0
           here-small = rw (free-is .1) at (valid-at (decisionSizes (s .plant)) c v valid (omega (arith, domains)))
 
+          -- the children left are its variants, and those of the node with it at the conflict's value
           parts-here : resolving (decisionSizes (s .plant)) (s .parent) c ≡ h .made ++ (variants (h .held) v y (valuesFrom 0 (getD sizes v 0)) ++ resolvingFrom (decisionSizes (s .plant)) (set (h .held) v (some y)) c (v + 1))
           parts-here = h .parts ∙ ap (λ (l : List Assignment). h .made ++ l)
               (rw (size-is t v l) (resolving-here (decisionSizes (s .plant)) (h .held) c v (omega (arith, domains)) (omega (arith, long-is t (h .held) (h .is .valid))) (omega (arith, long-is t c valid)) y (free-is .0) (free-is .1)))
@@ -97,7 +100,9 @@ module _ {node : Node} {queue : List ℕ} {n : ℕ} {store : List ℕ} {m : ℕ}
           pub midway-next : (next : Node) (last : List ℕ) (more : ℕ) → NodeIs (s .plant) (set (h .held) v (some y)) next
               → Puts here (variants (h .held) v y (valuesFrom 0 (getD sizes v 0))) last (Put.Entries more) → Midway s c (v + 1) next last more
           midway-next next last more i p = record {
-            held = set (h .held) v (some y); made = h .made ++ variants (h .held) v y (valuesFrom 0 (getD sizes v 0)); is = i;
+            held = set (h .held) v (some y);
+            made = h .made ++ variants (h .held) v y (valuesFrom 0 (getD sizes v 0));
+            is = i;
             parts = parts-here ∙ sym (append-assoc (h .made) _ _);
             put = put-join (orderOf (s .plant)) (s .conflicts) (s .rest) (h .made) _ queue after last entries _ e (h .put) p;
           }

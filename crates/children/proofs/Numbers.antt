@@ -1,19 +1,18 @@
 -- A node's numbers: they tell its words, and those of a child follow from its parent's. Assumes nothing.
 use mathlib.Core.Path.{_≡_, refl, sym, ap, _∙_}
-use mathlib.Core.Option.{Option, none, some}
-use mathlib.Core.List.{List, [], _∷_, map}
+use mathlib.Core.Option.{none, some}
+use mathlib.Core.List.{List, [], _∷_}
 use Prim.Native.Nat.{ℕ, zero, suc, _+_, _-_, _*_, _/_, _%_, _^_, _≤_, _<_}
 use native.Mathlib.Omega.{arith}
 use lib.Bits.{bitAnd, bitOr, bitXor}
-use lib.ListN.{length, getD, set, take, drop, length-map, length-set, List·getD-map, List·getD-eq-default}
+use lib.ListN.{length, getD, set, take, drop, length-map, length-set, List·getD-eq-default}
 use lib.Seq.{getD-take, getD-drop, getD-set-same, set-set}
 use Rattle.model.specs.Lists.{All}
 use Rattle.model.specs.Digits.{digits}
 use Rattle.model.specs.Sheet.{Plant, decisionSizes, edition1}
-use Rattle.model.specs.Assignment.{Assignment, Fits, Under, Valid, maskOf, valuesOf, full, code}
+use Rattle.model.specs.Assignment.{Assignment, Fits, Under, Valid, maskOf, full, code}
 use Rattle.model.specs.Order.{cost, best, orderOf}
-use Rattle.theory.specs.Digits.{Below}
-use Rattle.theory.specs.Plant.{Accepted, Sized}
+use Rattle.theory.specs.Plant.{Accepted}
 use Rattle.theory.specs.Tables.{rows}
 use Rattle.theory.specs.Words.{Words, wideOf}
 use Rattle.theory.proofs.Lists.{all-map}
@@ -21,41 +20,37 @@ use Rattle.theory.proofs.Digits.{number-digit}
 use Rattle.theory.proofs.Agreement.{fits-length, fits-at, valid-length, valid-set, values-full, full-valid}
 use Rattle.theory.proofs.Nodes.{best-fits}
 use Rattle.theory.proofs.Order.{cost-set}
-use Rattle.theory.proofs.Words.{valid-small, words-of}
+use Rattle.theory.proofs.Words.{valid-small}
 use Rattle.theory.proofs.WordsSet.{assign-words, remove-words}
 use Rattle.theory.proofs.WordsCost.{fits-below}
-use Rattle.theory.proofs.Children.{best-at, best-set, cost-most}
+use Rattle.theory.proofs.Children.{all-at, best-at, best-set, cost-most}
 use Rattle.queue.specs.Order.{entryOf, Suits}
 use Rattle.queue.proofs.OrderLaws.{figure-above}
 use Rattle.queue.proofs.EntryLaws.{node-words}
 use Rattle.queue.proofs.Callers.{cost-suits}
-use Rattle.children.specs.Children.{NodeIs, Table, Free}
+use Rattle.children.specs.Children.{NodeIs, Free}
 use Rattle.children.specs.declared.Node.{Node}
 
 module _ (p : Plant) (ok : Accepted edition1 p) where
   -- at most sixteen decision variables
-  pub few : length (p .costs) ≤ 16
+  few : length (p .costs) ≤ 16
   unfolding edition1
   few = ok .decisions
 
+  -- what the queue asks of the order
   suits : Suits (decisionSizes p) (orderOf p)
   suits = cost-suits p few (ok .decision-sizes)
 
   -- a domain has at most sixteen values
   pub at-most : (v : ℕ) → getD (decisionSizes p) v 0 ≤ 16
-  at-most v = go (decisionSizes p) v (suits .small)
-    where
-      go : (ss : List ℕ) (v : ℕ) → All (λ s. s ≤ 16) ss → getD ss v 0 ≤ 16
-      go [] v a = omega arith
-      go (s ∷ ss) zero a = a .0
-      go (s ∷ ss) (suc v) a = go ss v (a .1)
+  at-most v = all-at (λ s. s ≤ 16) 0 (omega arith) (decisionSizes p) v (suits .small)
 
   -- a cost is a sum of at most sixteen numbers of sixteen bits
-  pub figure-small : (f : List ℕ) → orderOf p .figure f ≤ 16 * 65535
+  figure-small : (f : List ℕ) → orderOf p .figure f ≤ 16 * 65535
   unfolding orderOf edition1
   figure-small f = omega (arith, few, cost-most (p .costs) f 65535 (all-map (λ row. all-map (λ c h. omega arith) row) (p .costs) (ok .costs)))
 
-  -- an entry tells them
+  -- an entry tells a node's numbers
   pub entry-is : (a b : ℕ) (n : Assignment) → Valid (decisionSizes p) n → (a, b) ≡ entryOf (orderOf p) n → NodeIs p n (record { mask = a * 2 ^ 48 % 2 ^ 64; code = b; cost = a / 65536 % 4294967296 })
   unfolding entryOf
   entry-is a b n v e =
@@ -69,7 +64,7 @@ module _ (p : Plant) (ok : Accepted edition1 p) where
         cost-is = rw first (omega (arith, figure-above (orderOf p) n, figure-small (best (orderOf p .preferred) n)));
       }
 
--- the values are the best state's where the widened mask is set
+-- they tell its words: the values are the best state's code where the widened mask is set
 pub words-are : {p : Plant} {n : Assignment} {node : Node} → NodeIs p n node → Words n (node .mask) (bitAnd (node .code) (wideOf (node .mask)))
 unfolding entryOf
 words-are {p} {n} i =
@@ -102,6 +97,7 @@ code-set f v x s a l h =
     ∙ rw (set-set (full f) v none (some x), full-set f v x) (ap code (values-full (set f v x)))
 
 module _ {p : Plant} {n : Assignment} {node : Node} {v : ℕ} {costs : List ℕ} {preferred : ℕ} (i : NodeIs p n node) (f : Free p n v costs preferred) where
+  -- the node's best state
   abbrev state : List ℕ
   state = best (orderOf p .preferred) n
 
@@ -126,7 +122,7 @@ module _ {p : Plant} {n : Assignment} {node : Node} {v : ℕ} {costs : List ℕ}
   old-is =
       let full-long = fits-length (decisionSizes p) (orderOf p .preferred) (suits p ok .preferred) in
       rw (f .table .preferred-is) (number-digit 16 16 v (orderOf p .preferred) (omega arith) (fits-below (decisionSizes p) (orderOf p .preferred) small (suits p ok .preferred))
-          (omega (arith, full-long, domains, few p ok)) (omega (arith, full-long, domains, f .within)))
+      (omega (arith, full-long, domains, few p ok)) (omega (arith, full-long, domains, f .within)))
       ∙ sym (best-at (orderOf p .preferred) n v (omega (arith, full-long, valid-length (decisionSizes p) n (i .valid))) (omega (arith, valid-length (decisionSizes p) n (i .valid), domains, f .within)) (f .free))
 
   -- what the table says a value costs

@@ -1,12 +1,12 @@
 -- Children put into the queue one after another: what is known after each, and that the whole is what the model puts there. Assumes nothing.
-use mathlib.Core.Path.{_≡_, refl, sym, ap, _∙_}
+use mathlib.Core.Path.{_≡_, refl, ap, _∙_}
 use mathlib.Core.Bool.{Bool, true, false, not}
 use mathlib.Core.Option.{some}
-use mathlib.Core.List.{List, [], _∷_, _++_, map, map-append}
+use mathlib.Core.List.{List, [], _∷_, _++_, map-append}
 use Prim.Native.Nat.{ℕ, suc, _+_, _-_, _*_, _/_, _≤_, _<_}
 use native.Mathlib.Omega.{arith}
 use lib.Bits.{bitAnd}
-use lib.Dec.{ltb, eqb}
+use lib.Dec.{eqb}
 use lib.ListN.{length, set, length-append, length-map}
 use borrow.Author.Tests.{ltb-true, ltb-false, lt-ltb, le-ltb}
 use Rattle.model.specs.Lists.{placeAll, keep, valuesFrom}
@@ -64,8 +64,14 @@ module _ {node : Node} {queue : List ℕ} {n : ℕ} {store : List ℕ} {m : ℕ}
   -- what the words stand for with another node
   abbrev pub instead : (child : Assignment) (next : Node) → NodeIs (s .plant) child next → Step next queue n store m
   instead child next i = record {
-    plant = s .plant; parent = child; conflicts = s .conflicts; rest = s .rest;
-    is = i; keeps = s .keeps; holds = s .holds; room = s .room;
+    plant = s .plant;
+    parent = child;
+    conflicts = s .conflicts;
+    rest = s .rest;
+    is = i;
+    keeps = s .keeps;
+    holds = s .holds;
+    room = s .room;
   }
 
   module _ (made : List Assignment) (after : List ℕ) (k : ℕ) (e : length after ≡ length queue) (h : Puts s made after (Put.Entries k)) where
@@ -73,10 +79,12 @@ module _ {node : Node} {queue : List ℕ} {n : ℕ} {store : List ℕ} {m : ℕ}
     abbrev queued : List Assignment
     queued = enqueueAll (orderOf (s .plant)) (leaveOff (s .conflicts) made) (s .rest)
 
+    -- which the words hold
     pub put-holds : Holds (orderOf (s .plant)) k after queued
     unfolding PutOf
     put-holds = h .2
 
+    -- and have room for
     pub put-room : 2 * k ≤ length after
     unfolding PutOf
     put-room = omega (arith, h .1, ltb-false (length queue / 2) (length (s .rest) + length (leaveOff (s .conflicts) made)) (h .0))
@@ -84,8 +92,14 @@ module _ {node : Node} {queue : List ℕ} {n : ℕ} {store : List ℕ} {m : ℕ}
     -- what the words stand for then
     abbrev pub onward : Step node after k store m
     onward = record {
-      plant = s .plant; parent = s .parent; conflicts = s .conflicts; rest = queued;
-      is = s .is; keeps = s .keeps; holds = put-holds; room = put-room;
+      plant = s .plant;
+      parent = s .parent;
+      conflicts = s .conflicts;
+      rest = queued;
+      is = s .is;
+      keeps = s .keeps;
+      holds = put-holds;
+      room = put-room;
     }
 
 -- children are found to be too many, however many follow
@@ -107,17 +121,17 @@ put-join o conflicts rest made more queue after last k Put.Full e h g =
     let second = leaveOff conflicts more in
     rw (keep-join (λ n. not (manifestsAny conflicts n)) made more)
     (lt-ltb (length queue / 2) (length rest + length (first ++ second))
-        (omega (arith, ltb-true (length after / 2) (length (enqueueAll o first rest) + length second) g, length-append first second, enqueueAll-length o first rest)))
+    (omega (arith, ltb-true (length after / 2) (length (enqueueAll o first rest) + length second) g, length-append first second, enqueueAll-length o first rest)))
 put-join o conflicts rest made more queue after last k (Put.Entries j) e h g =
     let first = leaveOff conflicts made in
     let second = leaveOff conflicts more in
     rw (keep-join (λ n. not (manifestsAny conflicts n)) made more) (
       le-ltb (length queue / 2) (length rest + length (first ++ second))
-        (omega (arith, ltb-false (length after / 2) (length (enqueueAll o first rest) + length second) (g .0), length-append first second, enqueueAll-length o first rest)),
+          (omega (arith, ltb-false (length after / 2) (length (enqueueAll o first rest) + length second) (g .0), length-append first second, enqueueAll-length o first rest)),
       omega (arith, g .1, length-append first second, enqueueAll-length o first rest),
       holds-reordered o j last (enqueueAll o second (enqueueAll o first rest)) (enqueueAll o (first ++ second) rest)
-        (λ w. omega (arith, enqueueAll-sum o w second (enqueueAll o first rest), enqueueAll-sum o w first rest, enqueueAll-sum o w (first ++ second) rest, sum-join w first second))
-        (g .2),
+          (λ w. omega (arith, enqueueAll-sum o w second (enqueueAll o first rest), enqueueAll-sum o w first rest, enqueueAll-sum o w (first ++ second) rest, sum-join w first second))
+          (g .2),
     )
 
 -- ---- one value after another

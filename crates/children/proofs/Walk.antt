@@ -1,32 +1,32 @@
--- A walk over the variables: what a word tells of one, the lowest that is unassigned, and a conflict's members one after another. Assumes nothing.
+-- What the words and the tables tell of one variable, and step 5: the children at the lowest that is unassigned. Assumes nothing.
 use mathlib.Core.Path.{_≡_, refl, sym, ap, _∙_}
 use mathlib.Core.Bool.{Bool, true, false, not, false≢true}
 use mathlib.Core.Option.{Option, none, some}
-use mathlib.Core.List.{List, [], _∷_, _++_, map, append-assoc}
-use Prim.Native.Nat.{ℕ, zero, suc, _+_, _≤_, _<_}
+use mathlib.Core.List.{List, []}
+use Prim.Native.Nat.{ℕ, suc, _+_, _≤_, _<_}
 use native.Mathlib.Omega.{arith}
 use native.Mathlib.Numerals.{add-one}
-use lib.Dec.{eqb}
-use lib.ListN.{length, getD, set, take, length-map, length-set}
+use lib.ListN.{length, getD, take, length-map}
 use lib.Seq.{getD-take, length-take-le}
 use Rattle.model.specs.Lists.{All, valuesFrom}
 use Rattle.model.specs.Sheet.{Plant, decisionSizes}
-use Rattle.model.specs.Assignment.{Assignment, Under, Valid, isSome, assignmentOf}
-use Rattle.model.specs.Order.{orderOf}
-use Rattle.model.specs.Listing.{branching, resolving}
+use Rattle.model.specs.Assignment.{Assignment, Valid, isSome, assignmentOf}
+use Rattle.model.specs.Listing.{branching}
 use Rattle.theory.specs.Plant.{Sized}
 use Rattle.theory.specs.Words.{Words, byte}
+use Rattle.theory.proofs.Lists.{all-map}
 use Rattle.theory.proofs.Agreement.{valid-length, Filled, filled-more}
 use Rattle.theory.proofs.Words.{words-hold}
-use Rattle.theory.proofs.Children.{all-others, branching-at, branching-full}
-use Rattle.children.specs.Children.{NodeIs, Tables, Free, Step, Puts, variants, member}
+use Rattle.theory.proofs.Children.{all-at, all-others, branching-at, branching-full}
+use Rattle.children.specs.Children.{Tables, Free, Step, Puts, variants, member}
 use Rattle.children.specs.declared.Node.{Node}
 use Rattle.children.specs.declared.Put.{Put}
 use Rattle.children.proofs.Numbers.{at-most, words-are}
-use Rattle.children.proofs.Putting.{put-nothing, onward, put-join, put-cut}
+use Rattle.children.proofs.Putting.{put-nothing}
 
--- ---- what a word tells
+-- ---- one variable
 
+-- an optional value that is not there
 pub is-none : (o : Option ℕ) → isSome o ≡ false → o ≡ none
 is-none none e = refl
 is-none (some x) e = absurd (false≢true (sym e))
@@ -60,16 +60,12 @@ member-free (some x) d e = absurd (false≢true (sym e))
 
 -- a size of the table is at most 16
 pub size-small : (d : ℕ) (sizes : List ℕ) (v : ℕ) → All Sized (take d sizes) → v < d → getD sizes v 0 ≤ 16
-size-small d sizes v a h = rw (getD-take d sizes v 0 h) at (go (take d sizes) v a)
-  where
-    go : (ss : List ℕ) (v : ℕ) → All Sized ss → getD ss v 0 ≤ 16
-    go [] v a = omega arith
-    go (s ∷ ss) zero a = a .0 .1
-    go (s ∷ ss) (suc v) a = go ss v (a .1)
+size-small d sizes v a h = rw (getD-take d sizes v 0 h) at (all-at (λ s. s ≤ 16) 0 (omega arith) (take d sizes) v (all-map (λ s z. z .1) (take d sizes) a))
 
 -- ---- step 5
 
 module _ {p : Plant} {d : ℕ} {sizes costs : List ℕ} {preferred : ℕ} (t : Tables p d sizes costs preferred) where
+  -- there are d decision variables
   pub count-is : length (p .costs) ≡ d
   count-is = sym (length-map (p .costs) length) ∙ ap length (t .sizes-are) ∙ length-take-le d sizes (t .decisions)
 
@@ -78,6 +74,7 @@ module _ {p : Plant} {d : ℕ} {sizes costs : List ℕ} {preferred : ℕ} (t : T
   size-is v h = sym (ap (λ (ss : List ℕ). getD ss v 0) (t .sizes-are) ∙ getD-take d sizes v 0 h)
 
   module _ (n : Assignment) (valid : Valid (decisionSizes p) n) where
+    -- and as many in an assignment
     pub long-is : length n ≡ d
     long-is = valid-length (decisionSizes p) n valid ∙ length-map (p .costs) length ∙ count-is
 
@@ -93,14 +90,18 @@ module _ {p : Plant} {d : ℕ} {sizes costs : List ℕ} {preferred : ℕ} (t : T
 -- the lowest unassigned variable of a step's node, as `lowest_free` tells it
 module _ {node : Node} {queue : List ℕ} {k : ℕ} {store : List ℕ} {m : ℕ} (s : Step node queue k store m) {d : ℕ} {sizes costs : List ℕ} {preferred : ℕ} (t : Tables (s .plant) d sizes costs preferred) (v : ℕ)
     (told : (n : Assignment) (values : ℕ) → Words n (node .mask) values → length n ≡ d → Filled v n × (v < d → getD n v none ≡ none)) where
+  -- all before it are assigned, and it is not
   lowest : Filled v (s .parent) × (v < d → getD (s .parent) v none ≡ none)
   lowest = told (s .parent) _ (words-are (s .is)) (long-is t (s .parent) (s .is .valid))
 
+  -- there is none
   pub branch-none : v ≡ d → Puts s (branching (decisionSizes (s .plant)) (s .parent)) queue (Put.Entries k)
   branch-none e = rw (branching-none t (s .parent) (s .is .valid) v e (lowest .0)) (put-nothing s)
 
+  -- there is one
   pub branch-free : v < d → Free (s .plant) (s .parent) v costs preferred
   branch-free h = record { table = t .table; within = omega (arith, count-is t); free = lowest .1 h }
 
+  -- its variants are the children
   pub branch-puts : (after : List ℕ) (r : Put) (size : ℕ) → size ≡ getD sizes v 0 → v < d → Puts s (variants (s .parent) v 16 (valuesFrom 0 size)) after r → Puts s (branching (decisionSizes (s .plant)) (s .parent)) after r
   branch-puts after r size e h p = rw (← branching-is t (s .parent) (s .is .valid) v (at-most (s .plant) (s .is .accepted) v) h (lowest .0) (lowest .1 h), ← e) p

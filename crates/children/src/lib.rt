@@ -3,7 +3,7 @@
 // child's numbers are made from its parent's: nothing is summed or searched anew. `Step` says what a node and the lent
 // slices stand for, `Puts` what became of the queue; of a queue that was found full nothing is said.
 ghost use mathlib.Core.Path.{_≡_};
-ghost use mathlib.Core.List.{List, [], _∷_};
+ghost use mathlib.Core.List.{[], _∷_};
 ghost use mathlib.Core.Option.{none, some};
 ghost use Prim.Native.Nat.{ℕ, _+_, _*_, _≤_, _<_};
 ghost use lib.ListN.{length, getD, set, take};

@@ -1,7 +1,7 @@
 -- The children of a node by place, as a loop over the variables has them, and their best states. Assumes nothing.
-use mathlib.Core.Path.{_≡_, refl, sym, ap, ap₂, _∙_}
+use mathlib.Core.Path.{_≡_, refl, sym, ap}
 use mathlib.Core.Bool.{Bool, true, false, not, false≢true}
-use mathlib.Core.Option.{Option, none, some}
+use mathlib.Core.Option.{none, some}
 use mathlib.Core.List.{List, [], _∷_, _++_, map, map-map, map-id, map-append, append-assoc}
 use Prim.Native.Nat.{ℕ, zero, suc, _+_, _*_, _≤_, _<_}
 use native.Mathlib.Omega.{arith}
@@ -16,7 +16,13 @@ use Rattle.model.specs.Order.{cost, valueOr, best}
 use Rattle.model.specs.Listing.{otherValues, resolving, branching}
 use Rattle.theory.proofs.Agreement.{Filled}
 
--- ---- values
+-- ---- lists
+
+-- what holds of all members, and of what is read past them, holds at each place
+pub all-at : {A : Type 0} (P : A → Type 0) (d : A) → P d → (xs : List A) (v : ℕ) → All P xs → P (getD xs v d)
+all-at P d h [] v a = h
+all-at P d h (x ∷ xs) zero a = a .0
+all-at P d h (x ∷ xs) (suc v) a = all-at P d h xs v (a .1)
 
 -- of two lists in a row as much is kept as of each
 pub keep-join : {A : Type 0} (test : A → Bool) (xs ys : List A) → keep test (xs ++ ys) ≡ keep test xs ++ keep test ys
@@ -66,9 +72,11 @@ branching-full (s ∷ ss) (some x ∷ n) e h = rw (branching-full ss n (omega ar
 abbrev pub resolvingFrom : List ℕ → Assignment → Assignment → ℕ → List Assignment
 resolvingFrom ss n c v = map (λ m. take v n ++ m) (resolving (drop v ss) (drop v n) (drop v c))
 
+-- from the first on they are all
 pub resolving-start : (ss : List ℕ) (n c : Assignment) → resolving ss n c ≡ resolvingFrom ss n c 0
 resolving-start ss n c = sym (map-id (resolving ss n c))
 
+-- and after the last there are none
 pub resolving-end : (ss : List ℕ) (n c : Assignment) (v : ℕ) → length ss ≤ v → resolvingFrom ss n c v ≡ []
 resolving-end ss n c v h = rw (drop-of-length-le ss {i = v} h)
 
@@ -103,13 +111,8 @@ best-set (p ∷ ps) [] v x = refl
 best-set (p ∷ ps) (o ∷ n) zero x = refl
 best-set (p ∷ ps) (o ∷ n) (suc v) x = ap (λ (f : List ℕ). valueOr p o ∷ f) (best-set ps n v x)
 
--- what costs each are at most a number, a full assignment costs at most that for each variable
+-- where no value costs more than a number, a full assignment costs at most that for each variable
 pub cost-most : (rows : List (List ℕ)) (f : List ℕ) (most : ℕ) → All (All (λ c. c ≤ most)) rows → cost rows f ≤ length rows * most
 cost-most [] f most a = omega arith
 cost-most (row ∷ rows) [] most a = omega arith
-cost-most (row ∷ rows) (x ∷ f) most a = omega (arith, at-most row x (a .0), cost-most rows f most (a .1))
-  where
-    at-most : (row : List ℕ) (x : ℕ) → All (λ c. c ≤ most) row → getD row x 0 ≤ most
-    at-most [] x a = omega arith
-    at-most (c ∷ row) zero a = a .0
-    at-most (c ∷ row) (suc x) a = at-most row x (a .1)
+cost-most (row ∷ rows) (x ∷ f) most a = omega (arith, all-at (λ c. c ≤ most) 0 (omega arith) row x (a .0), cost-most rows f most (a .1))

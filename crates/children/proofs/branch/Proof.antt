@@ -1,5 +1,5 @@
 -- `children::branch` meets its contract: where all variables are assigned there are no children, and otherwise they are the variants of the lowest that is not. Assumes nothing.
-use mathlib.Core.Path.{_≡_, sym, _∙_}
+use mathlib.Core.Path.{_∙_}
 use native.Mathlib.Omega.{arith}
 use borrow.Author.Needs.{needs}
 use Rattle.children.proofs.Walk.{size-small, size-is, branch-none, branch-free, branch-puts}

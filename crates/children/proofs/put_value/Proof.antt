@@ -1,6 +1,4 @@
 -- `children::put_value` meets its contract: the value that is excepted makes no child, and any other makes one, which is put. Assumes nothing.
-use mathlib.Core.Path.{_≡_}
-use Prim.Native.Nat.{_<_}
 use borrow.Author.Needs.{needs}
 use borrow.Author.Tests.{eq-eqb, ne-eqb}
 use Rattle.children.proofs.Putting.{put-nothing, instead}

@@ -16,7 +16,7 @@ abbrev Inv-loop : tie.InvT-loop
 Inv-loop node v size but preferred costs queue₀ n store m entries₀ x₀ queue entries x =
     (x ≤ size) × (length queue ≡ length queue₀)
     × ((s : Step node queue₀ n store m) → Free (s .plant) (s .parent) v costs preferred → size ≡ getD (decisionSizes (s .plant)) v 0
-      → Puts s (variants (s .parent) v but (valuesFrom 0 x)) queue (Put.Entries entries))
+    → Puts s (variants (s .parent) v but (valuesFrom 0 x)) queue (Put.Entries entries))
 
 abbrev μ-loop : tie.MeasureT-loop
 μ-loop node v size but preferred costs queue₀ n store m entries₀ x₀ queue entries x = size - x
@@ -57,8 +57,8 @@ loop-again c =
       omega arith,
       p .kept .1 .1 .1 .1 .1 .1 .0 ∙ l .inv .1,
       λ s f e.
-        let so-far = l .inv .2 s f e in
-        next-put s (a .v) (a .but) (l .x) _ _ (l .inv .1) so-far _ _ (rw (c .before .more .given .1) at (p .ensures (onward s _ _ _ (l .inv .1) so-far) f (omega arith))),
+          let so-far = l .inv .2 s f e in
+          next-put s (a .v) (a .but) (l .x) _ _ (l .inv .1) so-far _ _ (rw (c .before .more .given .1) at (p .ensures (onward s _ _ _ (l .inv .1) so-far) f (omega arith))),
     )
 
 same-length-2 : tie.Need-same-length-2 Inv-loop μ-loop

@@ -80,12 +80,12 @@ loop-again c =
       omega arith,
       ap length (a .11) ∙ a .4 .kept .1 .1 .1 .1 .1 .1 .0 ∙ l .inv .1,
       λ s tables k w valid.
-        let h = l .inv .2 s tables k w valid in
-        let f = here-free s k valid tables _ _ _ _ h (l .inv .1) t _ _ _ w (y .ensures) (a .0 .taken) in
-        let i = a .2 .ensures in
-        let child = a .10 .ensures (s .plant) (h .held) (h .is) f (here-small s k valid tables _ _ _ _ h (l .inv .1) t _ _ _ w (y .ensures) (a .0 .taken)) in
-        rw (a .11, a .12, a .13) (midway-next s k valid tables _ _ _ _ h (l .inv .1) t _ _ _ w (y .ensures) (a .0 .taken) _ _ _ child
-            (rw (a .8 .given .1, i) at (a .4 .ensures (here s k valid tables _ _ _ _ h (l .inv .1) t) f (i ∙ size-is tables _ t)))),
+          let h = l .inv .2 s tables k w valid in
+          let f = here-free s k valid tables _ _ _ _ h (l .inv .1) t _ _ _ w (y .ensures) (a .0 .taken) in
+          let i = a .2 .ensures in
+          let child = a .10 .ensures (s .plant) (h .held) (h .is) f (here-small s k valid tables _ _ _ _ h (l .inv .1) t _ _ _ w (y .ensures) (a .0 .taken)) in
+          rw (a .11, a .12, a .13) (midway-next s k valid tables _ _ _ _ h (l .inv .1) t _ _ _ w (y .ensures) (a .0 .taken) _ _ _ child
+          (rw (a .8 .given .1, i) at (a .4 .ensures (here s k valid tables _ _ _ _ h (l .inv .1) t) f (i ∙ size-is tables _ t)))),
     ))
     (λ a. (
       omega arith,

@@ -1,5 +1,5 @@
 -- `children::wanted` meets its contract: an assigned variable is not wanted, and any other has the conflict's byte. Assumes nothing.
-use mathlib.Core.Path.{_≡_, sym, _∙_}
+use mathlib.Core.Path.{sym, _∙_}
 use mathlib.Core.Option.{none}
 use native.Mathlib.Omega.{arith}
 use lib.ListN.{getD}
