@@ -1,0 +1,115 @@
+-- What the calls on a sheet and two words answer, as the model's. Assumes nothing: these are definitions.
+use mathlib.Core.Path.{_≡_}
+use mathlib.Core.Bool.{true, false}
+use mathlib.Core.Option.{Option, none, some}
+use mathlib.Core.List.{List, [], _∷_}
+use Prim.Native.Nat.{ℕ}
+use lib.Dec.{ltb}
+use lib.ListN.{length}
+use Rattle.model.specs.Lists.{filled}
+use Rattle.model.specs.Sheet.{Plant, got, edition1, readSheet, decisionSizes}
+use Rattle.model.specs.Assignment.{Assignment, maskOf, valuesOf, assignmentOf}
+use Rattle.model.specs.Consistency.{Tested, consistent, inconsistent, Consistent}
+use Rattle.model.specs.Conflict.{Reduced, ReducedAlone, reduced, Minimal, manifests}
+use Rattle.model.specs.Calls.{Refusal, byHost, byAuthor, refusalNumber, firstGiven, wordGrounds, Answered, refused, answered, testCall}
+use Rattle.theory.specs.Consistency.{trialsOf}
+use Rattle.theory.specs.Words.{Words}
+use Rattle.conflict.specs.declared.calls.Refusal.{Refusal as Whose}
+use Rattle.conflict.specs.declared.calls.TestAnswer.{TestAnswer}
+use Rattle.conflict.specs.declared.calls.ReduceAnswer.{ReduceAnswer}
+
+-- ---- both calls
+
+-- who caused a refusal, and its number
+abbrev pub refusalOf : Whose → Refusal
+refusalOf (Whose.Host n) = byHost n
+refusalOf (Whose.Author n) = byAuthor n
+
+-- what is answered, in other words
+abbrev pub onAnswer : {A B : Type 0} → (A → B) → Answered A → Answered B
+onAnswer f (refused r) = refused r
+onAnswer f (answered a) = answered (f a)
+
+-- the number of a ground, or 0 where none is given
+abbrev pub groundNumber : Option ℕ → ℕ
+groundNumber none = 0
+groundNumber (some n) = n
+
+-- a call on a plant and two words: what refuses the words, or what the assignment answers
+unfoldable pub onPlant : {A : Type 0} → Plant → ℕ → ℕ → (Assignment → A) → Answered A
+onPlant p mask values ask =
+    elim (firstGiven (wordGrounds (decisionSizes p) mask values)) [
+      | some n ↦ refused (byHost n)
+      | none ↦ answered (ask (assignmentOf (length (p .costs)) mask values))
+    ]
+
+-- ---- the test
+
+-- how a test ends, without the values found
+abbrev pub shown : Tested → Tested
+shown (consistent f t) = consistent [] t
+shown (inconsistent t) = inconsistent t
+shown (Tested.spent t) = Tested.spent t
+
+-- what the test call answers
+abbrev pub testOf : TestAnswer → Answered Tested
+testOf (TestAnswer.Refused r) = refused (refusalOf r)
+testOf (TestAnswer.Consistent t) = answered (consistent [] t)
+testOf (TestAnswer.Inconsistent t) = answered (inconsistent t)
+testOf (TestAnswer.Spent t) = answered (Tested.spent t)
+
+-- what that says of the assignment: unless refused or spent, 'consistent' exactly where it is consistent
+abbrev pub TestSays : Plant → Assignment → Answered Tested → Type 0
+TestSays p a (refused r) = Unit {0}
+TestSays p a (answered (consistent f t)) = Consistent p a
+TestSays p a (answered (inconsistent t)) = Consistent p a → ⊥
+TestSays p a (answered (Tested.spent t)) = Unit {0}
+
+-- it is right about the assignment that the words hold to the decision variables of the sheet's plant
+abbrev pub TestRight : List ℕ → ℕ → ℕ → TestAnswer → Type 0
+TestRight sheet mask values r = (p : Plant) (end : ℕ) → readSheet edition1 sheet ≡ got p end → TestSays p (assignmentOf (length (p .costs)) mask values) (testOf r)
+
+-- the number of an ending in the first result word of the export
+abbrev pub testNumber : Tested → ℕ
+testNumber (consistent f t) = 1
+testNumber (inconsistent t) = 2
+testNumber (Tested.spent t) = 3
+
+-- what the export returns, and the result words after it: those beyond the two are unchanged
+abbrev pub testWritten : List ℕ → Answered Tested → ℕ × List ℕ
+testWritten result (refused r) = (refusalNumber r, result)
+testWritten result (answered e) = (0, filled (testNumber e ∷ trialsOf e ∷ []) result)
+
+-- the export of the test; 2: fewer than two result words
+unfoldable pub testExport : List ℕ → ℕ → ℕ → ℕ → List ℕ → ℕ × List ℕ
+testExport sheet mask values limit result = elim (ltb (length result) 2) [ true ↦ (2, result) | false ↦ testWritten result (testCall sheet mask values limit) ]
+
+-- ---- the reduction
+
+-- how a reduction called alone ends, with a conflict by its two words
+pub data Worded : Type 0 where
+  nothing : ℕ → Worded
+  conflict : ℕ → ℕ → ℕ → Worded
+  spent : ℕ → Worded
+
+abbrev pub worded : ReducedAlone → Worded
+worded (ReducedAlone.nothing t) = nothing t
+worded (reduced (Reduced.conflict c t)) = conflict (maskOf c) (valuesOf c) t
+worded (reduced (Reduced.spent t)) = Worded.spent t
+
+-- what the reduce call answers
+abbrev pub reduceOf : ReduceAnswer → Answered Worded
+reduceOf (ReduceAnswer.Refused r) = refused (refusalOf r)
+reduceOf (ReduceAnswer.None t) = answered (nothing t)
+reduceOf (ReduceAnswer.Conflict mask values t) = answered (conflict mask values t)
+reduceOf (ReduceAnswer.Spent t) = answered (Worded.spent t)
+
+-- what that says of the assignment: 'none' that it is consistent, a conflict that it is not, and that the two words hold a minimal conflict contained in it
+abbrev pub ReduceSays : Plant → Assignment → Answered Worded → Type 0
+ReduceSays p a (refused r) = Unit {0}
+ReduceSays p a (answered (nothing t)) = Consistent p a
+ReduceSays p a (answered (conflict mask values t)) = (Consistent p a → ⊥) × ((c : Assignment) × Words c mask values × Minimal p c × (manifests a c ≡ true))
+ReduceSays p a (answered (Worded.spent t)) = Unit {0}
+
+abbrev pub ReduceRight : List ℕ → ℕ → ℕ → ReduceAnswer → Type 0
+ReduceRight sheet mask values r = (p : Plant) (end : ℕ) → readSheet edition1 sheet ≡ got p end → ReduceSays p (assignmentOf (length (p .costs)) mask values) (reduceOf r)

@@ -1,0 +1,263 @@
+// The test and the reduction as calls on a plant sheet and two words, whatever these are.
+use super::reduce::Reduced;
+use super::reduce::reduce;
+use super::tests::tested;
+use consistency::Answer;
+use consistency::tables::prepare;
+ghost use mathlib.Core.Path.{_≡_};
+ghost use mathlib.Core.List.{List, [], _∷_};
+ghost use Prim.Native.Nat.{ℕ, _≤_};
+ghost use lib.ListN.{length, take};
+ghost use Rattle.model.specs.Lists.{filled};
+ghost use Rattle.model.specs.Sheet.{Plant, decisionSizes};
+ghost use Rattle.model.specs.Assignment.{Assignment, Valid};
+ghost use Rattle.model.specs.Consistency.{test};
+ghost use Rattle.model.specs.Conflict.{reduceAlone};
+ghost use Rattle.model.specs.Calls.{refusalNumber, firstGiven, wordGrounds, answered, testCall, reduceCall};
+ghost use Rattle.theory.specs.Tables.{Tabled};
+ghost use Rattle.theory.specs.Words.{Words};
+ghost use Rattle.conflict.specs.Given.{Limits, Ready};
+ghost use Rattle.conflict.specs.Calls.{refusalOf, groundNumber, onAnswer, onPlant, shown, testOf, TestRight, testExport, worded, reduceOf, ReduceRight};
+
+// Who caused a refusal, and its number.
+pub enum Refusal {
+    Host(u32),
+    Author(u32),
+}
+
+// What the test answers, with its trials.
+pub enum TestAnswer {
+    Refused(Refusal),
+    Consistent(u32),
+    Inconsistent(u32),
+    Spent(u32),
+}
+
+// What the reduction answers, with its trials; a conflict by its two words.
+pub enum ReduceAnswer {
+    Refused(Refusal),
+    None(u32),
+    Conflict(u64, u64, u32),
+    Spent(u32),
+}
+
+// The number of the first ground on which the words are refused, or 0.
+fn unfit(mask: u64, values: u64, sizes: &[u8], d: usize) -> u32
+    requires { ⌜ (d ≤ 16) × (d ≤ length (now sizes)) ⌝ }
+    ensures { λ r. ⌜ r ≡ groundNumber (firstGiven (wordGrounds (take d (now (sizes .entry))) mask values)) ⌝ }
+{
+    if !words::mask_fits(mask, d) {
+        return 14;
+    }
+    if !words::values_fit(mask, values, sizes, d) {
+        return 15;
+    }
+    0
+}
+
+// The test of the two words' assignment over decoded tables, or what refuses the words.
+fn test_tables(
+    d: usize,
+    sizes: &[u8],
+    counts: &[u8],
+    lits: &[u8],
+    mask: u64,
+    values: u64,
+    limit: u32,
+) -> TestAnswer
+    requires { ⌜ Limits d (now sizes) (now counts) (now lits) ⌝ }
+    ensures { λ r. ⌜ ((p : Plant) (costs : List ℕ) → Tabled p d (now (sizes .entry)) costs (now (counts .entry)) (now (lits .entry)) → testOf r ≡ onAnswer shown (onPlant p mask values (λ a. test p limit a 0))) ⌝ }
+{
+    let ground = unfit(mask, values, sizes, d);
+    if ground != 0 {
+        return TestAnswer::Refused(Refusal::Host(ground));
+    }
+    let mut sat = [0u64; 6144];
+    let mut uses = [0u64; 384];
+    let mut vals = [16u8; 48];
+    let n = sizes.len();
+    prepare(counts, lits, &mut sat, &mut uses);
+    match tested(
+        d,
+        sizes,
+        counts,
+        lits,
+        &sat,
+        &uses,
+        &mut vals[..n],
+        mask,
+        values,
+        0,
+        limit,
+    ) {
+        Answer::Consistent(t) => TestAnswer::Consistent(t),
+        Answer::Inconsistent(t) => TestAnswer::Inconsistent(t),
+        Answer::Spent(t) => TestAnswer::Spent(t),
+    }
+}
+
+// The test of the two words' assignment on the sheet's plant.
+pub fn test_call(sheet: &[u8], mask: u64, values: u64, limit: u32) -> TestAnswer
+    ensures answer { λ r. ⌜ testOf r ≡ onAnswer shown (testCall (now (sheet .entry)) mask values limit) ⌝ }
+    ensures right { λ r. ⌜ TestRight (now (sheet .entry)) mask values r ⌝ }
+{
+    let mut sizes = [0u8; 48];
+    let mut costs = [0u16; 256];
+    let mut counts = [0u8; 512];
+    let mut lits = [0u8; 23040];
+    match sheet::read(sheet, &mut sizes, &mut costs, &mut counts, &mut lits) {
+        sheet::Answer::Refused(n) => TestAnswer::Refused(Refusal::Author(n)),
+        sheet::Answer::Counts(d, s, c) => {
+            let n = d + s;
+            test_tables(d, &sizes[..n], &counts[..c], &lits, mask, values, limit)
+        }
+    }
+}
+
+// Tests the assignment that the two words hold, and reduces it where it is inconsistent.
+fn alone(
+    d: usize,
+    sizes: &[u8],
+    counts: &[u8],
+    lits: &[u8],
+    sat: &[u64],
+    uses: &[u64],
+    vals: &mut [u8],
+    mask: u64,
+    values: u64,
+    limit: u32,
+) -> ReduceAnswer
+    requires { ⌜ Ready d (now sizes) (now counts) (now lits) (now sat) (now uses) (now vals) ⌝ }
+    ensures { λ r. ⌜ ((p : Plant) (costs : List ℕ) (a : Assignment) → Tabled p d (now (sizes .entry)) costs (now (counts .entry)) (now (lits .entry)) → Words a mask values → Valid (decisionSizes p) a → reduceOf r ≡ answered (worded (reduceAlone p limit a))) ⌝ }
+{
+    match tested(
+        d,
+        sizes,
+        counts,
+        lits,
+        sat,
+        uses,
+        vals,
+        mask,
+        values,
+        0,
+        limit,
+    ) {
+        Answer::Consistent(t) => ReduceAnswer::None(t),
+        Answer::Spent(t) => ReduceAnswer::Spent(t),
+        Answer::Inconsistent(t) => {
+            match reduce(
+                d,
+                sizes,
+                counts,
+                lits,
+                sat,
+                uses,
+                vals,
+                mask,
+                values,
+                t,
+                limit,
+            ) {
+                Reduced::Conflict(m, x, u) => ReduceAnswer::Conflict(m, x, u),
+                Reduced::Spent(u) => ReduceAnswer::Spent(u),
+            }
+        }
+    }
+}
+
+// The reduction of the two words' assignment over decoded tables, which is tested first, or what refuses the words.
+fn reduce_tables(
+    d: usize,
+    sizes: &[u8],
+    counts: &[u8],
+    lits: &[u8],
+    mask: u64,
+    values: u64,
+    limit: u32,
+) -> ReduceAnswer
+    requires { ⌜ Limits d (now sizes) (now counts) (now lits) ⌝ }
+    ensures { λ r. ⌜ ((p : Plant) (costs : List ℕ) → Tabled p d (now (sizes .entry)) costs (now (counts .entry)) (now (lits .entry)) → reduceOf r ≡ onAnswer worded (onPlant p mask values (λ a. reduceAlone p limit a))) ⌝ }
+{
+    let ground = unfit(mask, values, sizes, d);
+    if ground != 0 {
+        return ReduceAnswer::Refused(Refusal::Host(ground));
+    }
+    let mut sat = [0u64; 6144];
+    let mut uses = [0u64; 384];
+    let mut vals = [16u8; 48];
+    let n = sizes.len();
+    prepare(counts, lits, &mut sat, &mut uses);
+    alone(
+        d,
+        sizes,
+        counts,
+        lits,
+        &sat,
+        &uses,
+        &mut vals[..n],
+        mask,
+        values,
+        limit,
+    )
+}
+
+// The reduction of the two words' assignment on the sheet's plant, which is tested first.
+pub fn reduce_call(sheet: &[u8], mask: u64, values: u64, limit: u32) -> ReduceAnswer
+    ensures answer { λ r. ⌜ reduceOf r ≡ onAnswer worded (reduceCall (now (sheet .entry)) mask values limit) ⌝ }
+    ensures right { λ r. ⌜ ReduceRight (now (sheet .entry)) mask values r ⌝ }
+{
+    let mut sizes = [0u8; 48];
+    let mut costs = [0u16; 256];
+    let mut counts = [0u8; 512];
+    let mut lits = [0u8; 23040];
+    match sheet::read(sheet, &mut sizes, &mut costs, &mut counts, &mut lits) {
+        sheet::Answer::Refused(n) => ReduceAnswer::Refused(Refusal::Author(n)),
+        sheet::Answer::Counts(d, s, c) => {
+            let n = d + s;
+            reduce_tables(d, &sizes[..n], &counts[..c], &lits, mask, values, limit)
+        }
+    }
+}
+
+// The number of a refusal.
+fn number(r: Refusal) -> u32
+    ensures { λ n. ⌜ n ≡ refusalNumber (refusalOf r) ⌝ }
+{
+    match r {
+        Refusal::Host(n) => n,
+        Refusal::Author(n) => n,
+    }
+}
+
+// Writes an answer's number and its trials to the first two result words.
+fn written(result: &mut [u32], answer: u32, trials: u32) -> u32
+    requires { ⌜ 2 ≤ length (now result) ⌝ }
+    ensures { λ r. ⌜ (r ≡ 0) × (now (result .exit) ≡ filled (answer ∷ trials ∷ []) (now (result .entry))) ⌝ }
+{
+    result[0] = answer;
+    result[1] = trials;
+    0
+}
+
+// The test for a C program: the refusal's number, or 0 after the answer (1 consistent, 2 inconsistent, 3 spent) and its trials went to the first two result words.
+#[no_mangle]
+pub extern "C" fn leading_test(
+    sheet: &[u8],
+    mask: u64,
+    values: u64,
+    limit: u32,
+    result: &mut [u32],
+) -> u32
+    ensures { λ r. ⌜ testExport (now (sheet .entry)) mask values limit (now (result .entry)) ≡ (r, now (result .exit)) ⌝ }
+{
+    if result.len() < 2 {
+        return 2;
+    }
+    match test_call(sheet, mask, values, limit) {
+        TestAnswer::Refused(r) => number(r),
+        TestAnswer::Consistent(t) => written(result, 1, t),
+        TestAnswer::Inconsistent(t) => written(result, 2, t),
+        TestAnswer::Spent(t) => written(result, 3, t),
+    }
+}

@@ -1,0 +1,77 @@
+// Reads tests and reductions from standard input, as outside/vectors.py writes them, makes each call and prints its answer.
+// What it must print was written by the outside program.
+use conflict::calls::ReduceAnswer;
+use conflict::calls::Refusal;
+use conflict::calls::TestAnswer;
+use vectors::print_hex16;
+use vectors::print_number;
+use vectors::print_text;
+use vectors::read_block;
+use vectors::read_u16;
+use vectors::read_u32;
+use vectors::read_u64;
+use vectors::read_u8;
+
+// Prints the number of a refusal.
+fn refused(r: Refusal) {
+    print_text(b"refused ");
+    match r {
+        Refusal::Host(n) => print_number(n as u64, b'\n'),
+        Refusal::Author(n) => print_number(n as u64, b'\n'),
+    }
+}
+
+// Prints a word and the trials.
+fn tried(word: &[u8], trials: u32) {
+    print_text(word);
+    print_number(trials as u64, b'\n');
+}
+
+// Tests and prints the answer.
+fn test(sheet: &[u8], mask: u64, values: u64, limit: u32) {
+    match conflict::calls::test_call(sheet, mask, values, limit) {
+        TestAnswer::Refused(r) => refused(r),
+        TestAnswer::Consistent(t) => tried(b"consistent ", t),
+        TestAnswer::Inconsistent(t) => tried(b"inconsistent ", t),
+        TestAnswer::Spent(t) => tried(b"spent ", t),
+    }
+}
+
+// Reduces and prints the answer.
+fn reduce(sheet: &[u8], mask: u64, values: u64, limit: u32) {
+    match conflict::calls::reduce_call(sheet, mask, values, limit) {
+        ReduceAnswer::Refused(r) => refused(r),
+        ReduceAnswer::None(t) => tried(b"none ", t),
+        ReduceAnswer::Spent(t) => tried(b"spent ", t),
+        ReduceAnswer::Conflict(m, v, t) => {
+            print_text(b"conflict ");
+            print_hex16(m, b' ');
+            print_hex16(v, b' ');
+            print_number(t as u64, b'\n');
+        }
+    }
+}
+
+// Reads one case and makes its call.
+fn replay() {
+    let kind = read_u8();
+    let mut bytes = io::large_buffer();
+    let n = read_block(&mut bytes, read_u16());
+    let mask = read_u64();
+    let values = read_u64();
+    let limit = read_u32();
+    if kind == 0 {
+        test(&bytes[..n], mask, values, limit);
+    } else {
+        reduce(&bytes[..n], mask, values, limit);
+    }
+}
+
+// Reads the number of cases, and replays each.
+fn main() {
+    let mut left = read_u16();
+    while left > 0 {
+        replay();
+        left -= 1;
+    }
+}
