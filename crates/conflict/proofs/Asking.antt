@@ -1,5 +1,5 @@
 -- From the model's calls to what the code does in turn: read the sheet, look at the words, ask; and what is answered is right. Assumes nothing.
-use mathlib.Core.Path.{_≡_, refl, sym, ap, _∙_}
+use mathlib.Core.Path.{_≡_, refl, sym, ap}
 use mathlib.Core.Bool.{Bool, true, false}
 use mathlib.Core.Option.{Option, none, some}
 use mathlib.Core.List.{List}
@@ -8,14 +8,13 @@ use native.Mathlib.Omega.{arith}
 use lib.ListN.{length, take, length-map}
 use Rattle.model.specs.Lists.{All}
 use Rattle.model.specs.Sheet.{Plant, Read, got, edition1, readSheet, decisionSizes}
-use Rattle.model.specs.Assignment.{Assignment, Valid, assignmentOf, maskOf, valuesOf, maskFits, valuesFit, wellFormed}
+use Rattle.model.specs.Assignment.{Assignment, Valid, assignmentOf, maskFits, valuesFit, wellFormed}
 use Rattle.model.specs.Consistency.{Tested, consistent, inconsistent, test}
 use Rattle.model.specs.Conflict.{Reduced, conflict, ReducedAlone, nothing, reduced, reduce, reduceAlone}
 use Rattle.model.specs.Calls.{Refusal, byHost, byAuthor, firstGiven, wordGrounds, Answered, refused, answered, onWords, testCall, reduceCall}
 use Rattle.theory.specs.Consistency.{Alone}
-use Rattle.theory.specs.Plant.{Accepted, Sized}
+use Rattle.theory.specs.Plant.{Accepted}
 use Rattle.theory.specs.Tables.{Tabled}
-use Rattle.theory.specs.Words.{Words}
 use Rattle.theory.proofs.Lists.{all-map, all-image}
 use Rattle.theory.proofs.Sheet.{accepted}
 use Rattle.theory.proofs.Tables.{tabled-decisions, tabled-count, tabled-few}

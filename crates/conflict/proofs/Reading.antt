@@ -1,12 +1,12 @@
 -- What the sheet reader leaves in tables of the largest size: the plant's own tables are their first parts. Assumes nothing.
-use mathlib.Core.Path.{_≡_, sym, ap, _∙_}
-use mathlib.Core.List.{List, map}
+use mathlib.Core.Path.{_≡_}
+use mathlib.Core.List.{List}
 use Prim.Native.Nat.{ℕ, _+_, _*_, _≤_}
 use native.Mathlib.Omega.{arith}
 use lib.ListN.{length, take}
 use lib.Seq.{length-take-le, take-take}
 use Rattle.model.specs.Sheet.{Plant, got, edition1, readSheet}
-use Rattle.theory.specs.Tables.{rows, plantOf, Tabled}
+use Rattle.theory.specs.Tables.{plantOf, Tabled}
 use Rattle.theory.proofs.Tables.{plant-from}
 use Rattle.sheet.specs.declared.Answer.{Answer}
 use Rattle.sheet.specs.Answers.{answerOf, Tabled as Reads}

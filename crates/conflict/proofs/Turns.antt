@@ -3,7 +3,7 @@ use mathlib.Core.Path.{_≡_, refl, sym, ap, _∙_}
 use mathlib.Core.Bool.{Bool, true, false, false≢true}
 use mathlib.Core.Option.{Option, none, some}
 use mathlib.Core.List.{List}
-use Prim.Native.Nat.{ℕ, zero, suc, _+_, _-_, _≤_, _<_}
+use Prim.Native.Nat.{ℕ, suc, _+_, _-_, _≤_, _<_}
 use native.Mathlib.Omega.{arith}
 use lib.ListN.{length, getD, set, length-map}
 use Rattle.model.specs.Sheet.{Plant, decisionSizes}
@@ -14,7 +14,7 @@ use Rattle.theory.specs.Tables.{Tabled}
 use Rattle.theory.specs.Words.{Words}
 use Rattle.theory.proofs.Agreement.{valid-length, valid-set}
 use Rattle.theory.proofs.ReductionSteps.{reduce-skip, reduce-keep, reduce-lose, reduce-stop}
-use Rattle.theory.proofs.Tables.{tabled-count, tabled-few}
+use Rattle.theory.proofs.Tables.{tabled-count}
 use Rattle.theory.proofs.Words.{words-hold}
 use Rattle.consistency.specs.declared.Answer.{Answer}
 use Rattle.consistency.specs.Answers.{Ended}

@@ -5,18 +5,14 @@ use super::tests::tested;
 use consistency::Answer;
 use consistency::tables::prepare;
 ghost use mathlib.Core.Path.{_≡_};
-ghost use mathlib.Core.List.{List, [], _∷_};
-ghost use Prim.Native.Nat.{ℕ, _≤_};
+ghost use mathlib.Core.List.{[], _∷_};
+ghost use Prim.Native.Nat.{_≤_};
 ghost use lib.ListN.{length, take};
 ghost use Rattle.model.specs.Lists.{filled};
-ghost use Rattle.model.specs.Sheet.{Plant, decisionSizes};
-ghost use Rattle.model.specs.Assignment.{Assignment, Valid};
 ghost use Rattle.model.specs.Consistency.{test};
 ghost use Rattle.model.specs.Conflict.{reduceAlone};
 ghost use Rattle.model.specs.Calls.{refusalNumber, firstGiven, wordGrounds, answered, testCall, reduceCall};
-ghost use Rattle.theory.specs.Tables.{Tabled};
-ghost use Rattle.theory.specs.Words.{Words};
-ghost use Rattle.conflict.specs.Given.{Limits, Ready};
+ghost use Rattle.conflict.specs.Given.{Limits, Ready, ForPlant, ForWords};
 ghost use Rattle.conflict.specs.Calls.{refusalOf, groundNumber, onAnswer, onPlant, shown, testOf, TestRight, testExport, worded, reduceOf, ReduceRight};
 
 // Who caused a refusal, and its number.
@@ -66,7 +62,7 @@ fn test_tables(
     limit: u32,
 ) -> TestAnswer
     requires { ⌜ Limits d (now sizes) (now counts) (now lits) ⌝ }
-    ensures { λ r. ⌜ ((p : Plant) (costs : List ℕ) → Tabled p d (now (sizes .entry)) costs (now (counts .entry)) (now (lits .entry)) → testOf r ≡ onAnswer shown (onPlant p mask values (λ a. test p limit a 0))) ⌝ }
+    ensures { λ r. ⌜ ForPlant d (now (sizes .entry)) (now (counts .entry)) (now (lits .entry)) (λ p. testOf r ≡ onAnswer shown (onPlant p mask values (λ a. test p limit a 0))) ⌝ }
 {
     let ground = unfit(mask, values, sizes, d);
     if ground != 0 {
@@ -128,7 +124,7 @@ fn alone(
     limit: u32,
 ) -> ReduceAnswer
     requires { ⌜ Ready d (now sizes) (now counts) (now lits) (now sat) (now uses) (now vals) ⌝ }
-    ensures { λ r. ⌜ ((p : Plant) (costs : List ℕ) (a : Assignment) → Tabled p d (now (sizes .entry)) costs (now (counts .entry)) (now (lits .entry)) → Words a mask values → Valid (decisionSizes p) a → reduceOf r ≡ answered (worded (reduceAlone p limit a))) ⌝ }
+    ensures { λ r. ⌜ ForWords d (now (sizes .entry)) (now (counts .entry)) (now (lits .entry)) mask values (λ p a. reduceOf r ≡ answered (worded (reduceAlone p limit a))) ⌝ }
 {
     match tested(
         d,
@@ -177,7 +173,7 @@ fn reduce_tables(
     limit: u32,
 ) -> ReduceAnswer
     requires { ⌜ Limits d (now sizes) (now counts) (now lits) ⌝ }
-    ensures { λ r. ⌜ ((p : Plant) (costs : List ℕ) → Tabled p d (now (sizes .entry)) costs (now (counts .entry)) (now (lits .entry)) → reduceOf r ≡ onAnswer worded (onPlant p mask values (λ a. reduceAlone p limit a))) ⌝ }
+    ensures { λ r. ⌜ ForPlant d (now (sizes .entry)) (now (counts .entry)) (now (lits .entry)) (λ p. reduceOf r ≡ onAnswer worded (onPlant p mask values (λ a. reduceAlone p limit a))) ⌝ }
 {
     let ground = unfit(mask, values, sizes, d);
     if ground != 0 {

@@ -1,14 +1,9 @@
 // The reduction of a conflict that is given by its two words.
 use super::tests::tested;
 use consistency::Answer;
-ghost use mathlib.Core.List.{List};
-ghost use Prim.Native.Nat.{ℕ, _<_};
-ghost use Rattle.model.specs.Sheet.{Plant, decisionSizes};
-ghost use Rattle.model.specs.Assignment.{Assignment, Valid};
+ghost use Prim.Native.Nat.{_<_};
 ghost use Rattle.model.specs.Conflict.{reduce};
-ghost use Rattle.theory.specs.Tables.{Tabled};
-ghost use Rattle.theory.specs.Words.{Words};
-ghost use Rattle.conflict.specs.Given.{Ready};
+ghost use Rattle.conflict.specs.Given.{Ready, ForWords};
 ghost use Rattle.conflict.specs.Reduced.{Turned, Reduces};
 
 // How a reduction ends, with the trials made so far: the conflict's two words, or 'spent'.
@@ -33,7 +28,7 @@ fn without(
     limit: u32,
 ) -> Reduced
     requires { ⌜ Ready d (now sizes) (now counts) (now lits) (now sat) (now uses) (now vals) × (v < d) ⌝ }
-    ensures { λ r. ⌜ ((p : Plant) (costs : List ℕ) (c : Assignment) → Tabled p d (now (sizes .entry)) costs (now (counts .entry)) (now (lits .entry)) → Words c mask values → Valid (decisionSizes p) c → Turned p limit v c used r) ⌝ }
+    ensures { λ r. ⌜ ForWords d (now (sizes .entry)) (now (counts .entry)) (now (lits .entry)) mask values (λ p c. Turned p limit v c used r) ⌝ }
 {
     if !words::is_assigned(mask, v) {
         return Reduced::Conflict(mask, values, used);
@@ -73,7 +68,7 @@ pub fn reduce(
     limit: u32,
 ) -> Reduced
     requires { ⌜ Ready d (now sizes) (now counts) (now lits) (now sat) (now uses) (now vals) ⌝ }
-    ensures { λ r. ⌜ ((p : Plant) (costs : List ℕ) (a : Assignment) → Tabled p d (now (sizes .entry)) costs (now (counts .entry)) (now (lits .entry)) → Words a mask values → Valid (decisionSizes p) a → Reduces p (reduce p limit a used) r) ⌝ }
+    ensures { λ r. ⌜ ForWords d (now (sizes .entry)) (now (counts .entry)) (now (lits .entry)) mask values (λ p a. Reduces p (reduce p limit a used) r) ⌝ }
 {
     let mut m = mask;
     let mut x = values;

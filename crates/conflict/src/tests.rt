@@ -1,17 +1,15 @@
 // The consistency test of an assignment to the decision variables that is given by its two words.
 use consistency::Answer;
 ghost use mathlib.Core.Path.{_≡_};
-ghost use mathlib.Core.List.{List, _++_, map};
+ghost use mathlib.Core.List.{_++_, map};
 ghost use mathlib.Core.Option.{none};
-ghost use Prim.Native.Nat.{ℕ, _-_, _≤_};
+ghost use Prim.Native.Nat.{_-_, _≤_};
 ghost use lib.ListN.{length, getD, replicate};
-ghost use Rattle.model.specs.Sheet.{Plant, decisionSizes};
-ghost use Rattle.model.specs.Assignment.{Assignment, Valid, assignmentOf};
+ghost use Rattle.model.specs.Assignment.{assignmentOf};
 ghost use Rattle.model.specs.Consistency.{test, overAll};
-ghost use Rattle.theory.specs.Tables.{Tabled};
-ghost use Rattle.theory.specs.Words.{Words, byte};
+ghost use Rattle.theory.specs.Words.{byte};
 ghost use Rattle.consistency.specs.Answers.{Ended};
-ghost use Rattle.conflict.specs.Given.{Ready};
+ghost use Rattle.conflict.specs.Given.{Ready, ForWords};
 
 // The byte of the variable v, of which the first d are decision variables.
 fn byte_at(d: usize, mask: u64, values: u64, v: usize) -> u8
@@ -51,8 +49,7 @@ pub fn tested(
     limit: u32,
 ) -> Answer
     requires { ⌜ Ready d (now sizes) (now counts) (now lits) (now sat) (now uses) (now vals) ⌝ }
-    ensures { λ r. ⌜ ((p : Plant) (costs : List ℕ) (a : Assignment) → Tabled p d (now (sizes .entry)) costs (now (counts .entry)) (now (lits .entry)) → Words a mask values → Valid (decisionSizes p) a
-        → Ended (test p limit a used) (map byte (overAll p a)) (now (vals .exit)) r) ⌝ }
+    ensures { λ r. ⌜ ForWords d (now (sizes .entry)) (now (counts .entry)) (now (lits .entry)) mask values (λ p a. Ended (test p limit a used) (map byte (overAll p a)) (now (vals .exit)) r) ⌝ }
 {
     fill(vals, d, mask, values);
     consistency::test(sizes, counts, lits, sat, uses, vals, used, limit)

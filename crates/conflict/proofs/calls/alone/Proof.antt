@@ -30,35 +30,39 @@ same-length : tie.Need-same-length
 same-length c = search needs
 
 returns : tie.Need-returns
-returns c p costs a t w v =
+returns c p costs t a w v =
     let k = c .before .before .before .before .before in
-    rw (alone-none p (k .before .before .before .before .before .before .before .before .args .limit) a (was-consistent _ _ _ _ _ (k .tested .ensures p costs a t w v) (c .before .t .given .1)))
+    let e = was-consistent _ _ _ _ _ (k .tested .ensures p costs t a w v) (c .before .t .given .1) in
+    rw (alone-none p (k .before .before .before .before .before .before .before .before .args .limit) a e)
 
 same-length-2 : tie.Need-same-length-2
 same-length-2 c = search needs
 
 returns-2 : tie.Need-returns-2
-returns-2 c p costs a t w v =
+returns-2 c p costs t a w v =
     let k = c .before .before .before .before .before in
-    rw (alone-spent p (k .before .before .before .before .before .before .before .before .args .limit) a (was-spent _ _ _ _ _ (k .tested .ensures p costs a t w v) (c .before .t2 .given .1) .0))
+    let e = was-spent _ _ _ _ _ (k .tested .ensures p costs t a w v) (c .before .t2 .given .1) .0 in
+    rw (alone-spent p (k .before .before .before .before .before .before .before .before .args .limit) a e)
 
 same-length-3 : tie.Need-same-length-3
 same-length-3 c = search needs
 
 returns-3 : tie.Need-returns-3
-returns-3 c p costs a t w v =
+returns-3 c p costs t a w v =
     let k = c .before .before .before .before .before .before .before .before .before .before .before .before in
-    let q = was-inconsistent _ _ _ _ _ (k .tested .ensures p costs a t w v) (c .before .before .before .before .before .before .before .before .t3 .given .1) .0 in
-    rw (alone-conflict p (k .before .before .before .before .before .before .before .before .args .limit) a q _ (c .before .before .before .before .before .reduce .ensures p costs a t w v) (c .before .m .given .1))
+    let q = was-inconsistent _ _ _ _ _ (k .tested .ensures p costs t a w v) (c .before .before .before .before .before .before .before .before .t3 .given .1) .0 in
+    let h = c .before .before .before .before .before .reduce .ensures p costs t a w v in
+    rw (alone-conflict p (k .before .before .before .before .before .before .before .before .args .limit) a q _ h (c .before .m .given .1))
 
 same-length-4 : tie.Need-same-length-4
 same-length-4 c = search needs
 
 returns-4 : tie.Need-returns-4
-returns-4 c p costs a t w v =
+returns-4 c p costs t a w v =
     let k = c .before .before .before .before .before .before .before .before .before .before .before .before in
-    let q = was-inconsistent _ _ _ _ _ (k .tested .ensures p costs a t w v) (c .before .before .before .before .before .before .before .before .t3 .given .1) .0 in
-    rw (alone-stopped p (k .before .before .before .before .before .before .before .before .args .limit) a q _ (c .before .before .before .before .before .reduce .ensures p costs a t w v) (c .before .u .given .1))
+    let q = was-inconsistent _ _ _ _ _ (k .tested .ensures p costs t a w v) (c .before .before .before .before .before .before .before .before .t3 .given .1) .0 in
+    let h = c .before .before .before .before .before .reduce .ensures p costs t a w v in
+    rw (alone-stopped p (k .before .before .before .before .before .before .before .before .args .limit) a q _ h (c .before .u .given .1))
 
 pub alone-spec : {M : Type 1} → statement M
 alone-spec =

@@ -41,7 +41,8 @@ returns-2 : tie.Need-returns-2
 returns-2 c =
     let s = c .before .before .before .before .before .before .before .before .args in
     let r = c .before .before .before .before .test-call in
-    exported (s .sheet .now) (s .mask) (s .values) (s .limit) (s .result .now) (c .before .before .before .before .before .if1 .left) (r .result) (r .ensures .0) _ (c .before .before .r .given .1) (c .number .ensures) refl
+    exported (s .sheet .now) (s .mask) (s .values) (s .limit) (s .result .now) (c .before .before .before .before .before .if1 .left)
+    (r .result) (r .ensures .0) _ (c .before .before .r .given .1) (c .number .ensures) refl
 
 same-length : tie.Need-same-length
 same-length c = search needs
@@ -51,7 +52,8 @@ returns-3 c =
     let s = c .before .before .before .before .before .before .before .before .before .before .before .args in
     let r = c .before .before .before .before .before .before .before .test-call in
     let w = c .before .before .written in
-    exported (s .sheet .now) (s .mask) (s .values) (s .limit) (s .result .now) (c .before .before .before .before .before .before .before .before .if1 .left) (r .result) (r .ensures .0) _ (c .before .before .before .before .before .t .given .1) (w .ensures .0) (w .ensures .1)
+    exported (s .sheet .now) (s .mask) (s .values) (s .limit) (s .result .now) (c .before .before .before .before .before .before .before .before .if1 .left)
+    (r .result) (r .ensures .0) _ (c .before .before .before .before .before .t .given .1) (w .ensures .0) (w .ensures .1)
 
 same-length-2 : tie.Need-same-length-2
 same-length-2 c = search needs
@@ -61,7 +63,8 @@ returns-4 c =
     let s = c .before .before .before .before .before .before .before .before .before .before .before .args in
     let r = c .before .before .before .before .before .before .before .test-call in
     let w = c .before .before .written2 in
-    exported (s .sheet .now) (s .mask) (s .values) (s .limit) (s .result .now) (c .before .before .before .before .before .before .before .before .if1 .left) (r .result) (r .ensures .0) _ (c .before .before .before .before .before .t2 .given .1) (w .ensures .0) (w .ensures .1)
+    exported (s .sheet .now) (s .mask) (s .values) (s .limit) (s .result .now) (c .before .before .before .before .before .before .before .before .if1 .left)
+    (r .result) (r .ensures .0) _ (c .before .before .before .before .before .t2 .given .1) (w .ensures .0) (w .ensures .1)
 
 same-length-3 : tie.Need-same-length-3
 same-length-3 c = search needs
@@ -71,7 +74,8 @@ returns-5 c =
     let s = c .before .before .before .before .before .before .before .before .before .before .before .args in
     let r = c .before .before .before .before .before .before .before .test-call in
     let w = c .before .before .written3 in
-    exported (s .sheet .now) (s .mask) (s .values) (s .limit) (s .result .now) (c .before .before .before .before .before .before .before .before .if1 .left) (r .result) (r .ensures .0) _ (c .before .before .before .before .before .t3 .given .1) (w .ensures .0) (w .ensures .1)
+    exported (s .sheet .now) (s .mask) (s .values) (s .limit) (s .result .now) (c .before .before .before .before .before .before .before .before .if1 .left)
+    (r .result) (r .ensures .0) _ (c .before .before .before .before .before .t3 .given .1) (w .ensures .0) (w .ensures .1)
 
 pub leading-test-spec : {M : Type 1} → statement M
 leading-test-spec =

@@ -50,7 +50,8 @@ returns-2 c p costs t =
     let s = c .before .before .before .before .before .before .before .before .before .before .before .before .before .before .before in
     let g = sym (c .before .before .before .before .before .before .before .before .before .before .before .unfit .ensures) ∙ c .before .before .before .before .before .before .before .before .before .before .if1 .left in
     let h = tabled-held t (s .args .mask) (s .args .values) g (s .fits .mask .fits) (s .fits .values .fits) in
-    rw (tabled-answered t (s .args .mask) (s .args .values) (λ a. reduceAlone p (s .args .limit) a) g) (c .before .alone .ensures p costs _ t (h .words) (h .valid))
+    rw (tabled-answered t (s .args .mask) (s .args .values) (λ a. reduceAlone p (s .args .limit) a) g)
+    (c .before .alone .ensures p costs t _ (h .words) (h .valid))
 
 pub reduce-tables-spec : {M : Type 1} → statement M
 reduce-tables-spec =

@@ -38,7 +38,9 @@ enum-known-d c = search needs
 
 -- an accepted sheet's tables, where the three counts have been taken out of the reader's answer
 tables : (k : lts.After-d (read-reads.Asked, read-reads.Learnt, test-tables-reads.Asked, test-tables-reads.Learnt) reads.Pre reads.Post)
-    → Opened (k .before .before .before .before .before .before .before .before .before .before .before .before .args .sheet .now) (k .before .before .before .before .before .before .read .last .1 .0) (k .before .before .before .before .before .before .read .last .1 .1 .0) (k .before .before .before .before .before .before .read .last .1 .1 .1 .0) (k .before .before .before .before .before .before .read .last .1 .1 .1 .1 .0)
+    → Opened (k .before .before .before .before .before .before .before .before .before .before .before .before .args .sheet .now)
+    (k .before .before .before .before .before .before .read .last .1 .0) (k .before .before .before .before .before .before .read .last .1 .1 .0)
+    (k .before .before .before .before .before .before .read .last .1 .1 .1 .0) (k .before .before .before .before .before .before .read .last .1 .1 .1 .1 .0)
     (k .d .given .0 .0) (k .d .given .0 .1 .0) (k .d .given .0 .1 .1 .0)
 tables k =
     let r = k .before .before .before .before .before .before .read in

@@ -61,7 +61,8 @@ returns-2 c p costs t =
     let s = k .before .before .before .before .before .before .before .before .before .before .before .before .before .before in
     let g = sym (k .before .before .before .before .before .before .before .before .before .before .unfit .ensures) ∙ k .before .before .before .before .before .before .before .before .before .if1 .left in
     let h = tabled-held t (s .args .mask) (s .args .values) g (s .fits .mask .fits) (s .fits .values .fits) in
-    rw (tabled-answered t (s .args .mask) (s .args .values) (λ a. test p (s .args .limit) a 0) g, was-consistent _ _ _ _ _ (k .tested .ensures p costs _ t (h .words) (h .valid)) (c .before .t .given .1))
+    let e = was-consistent _ _ _ _ _ (k .tested .ensures p costs t _ (h .words) (h .valid)) (c .before .t .given .1) in
+    rw (tabled-answered t (s .args .mask) (s .args .values) (λ a. test p (s .args .limit) a 0) g, e)
 
 returns-3 : tie.Need-returns-3
 returns-3 c p costs t =
@@ -69,7 +70,8 @@ returns-3 c p costs t =
     let s = k .before .before .before .before .before .before .before .before .before .before .before .before .before .before in
     let g = sym (k .before .before .before .before .before .before .before .before .before .before .unfit .ensures) ∙ k .before .before .before .before .before .before .before .before .before .if1 .left in
     let h = tabled-held t (s .args .mask) (s .args .values) g (s .fits .mask .fits) (s .fits .values .fits) in
-    rw (tabled-answered t (s .args .mask) (s .args .values) (λ a. test p (s .args .limit) a 0) g, was-inconsistent _ _ _ _ _ (k .tested .ensures p costs _ t (h .words) (h .valid)) (c .before .t2 .given .1) .0)
+    let e = was-inconsistent _ _ _ _ _ (k .tested .ensures p costs t _ (h .words) (h .valid)) (c .before .t2 .given .1) .0 in
+    rw (tabled-answered t (s .args .mask) (s .args .values) (λ a. test p (s .args .limit) a 0) g, e)
 
 returns-4 : tie.Need-returns-4
 returns-4 c p costs t =
@@ -77,7 +79,8 @@ returns-4 c p costs t =
     let s = k .before .before .before .before .before .before .before .before .before .before .before .before .before .before in
     let g = sym (k .before .before .before .before .before .before .before .before .before .before .unfit .ensures) ∙ k .before .before .before .before .before .before .before .before .before .if1 .left in
     let h = tabled-held t (s .args .mask) (s .args .values) g (s .fits .mask .fits) (s .fits .values .fits) in
-    rw (tabled-answered t (s .args .mask) (s .args .values) (λ a. test p (s .args .limit) a 0) g, was-spent _ _ _ _ _ (k .tested .ensures p costs _ t (h .words) (h .valid)) (c .before .t3 .given .1) .0)
+    let e = was-spent _ _ _ _ _ (k .tested .ensures p costs t _ (h .words) (h .valid)) (c .before .t3 .given .1) .0 in
+    rw (tabled-answered t (s .args .mask) (s .args .values) (λ a. test p (s .args .limit) a 0) g, e)
 
 pub test-tables-spec : {M : Type 1} → statement M
 test-tables-spec =

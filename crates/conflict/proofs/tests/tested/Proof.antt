@@ -16,7 +16,7 @@ same-length : tie.Need-same-length
 same-length c = search needs
 
 returns : tie.Need-returns
-returns c p costs a t w v =
+returns c p costs t a w v =
     let s = c .before .before .before .before .before .before .before .before .before .before .before .before .before .before in
     ready-ended (s .pre) (s .args .mask) (s .args .values) (c .before .before .before .before .before .before .fill .ensures) t a w v (s .args .limit) (s .args .used) _ _ (c .before .before .test .ensures)
 
