@@ -17,16 +17,15 @@ pub one-shifted : (w : ℕ) → w ≤ 16 → 1 * 2 ^ w % 4294967296 ≡ 2 ^ w
 one-shifted w h = rw (one-mul (2 ^ w)) (mod-eq-of-lt (pow-lt {j = 32} (omega arith)))
 
 -- three bytes as one word
-three : (sheet : List ℕ) (i : ℕ) → number 256 3 (drop i sheet) ≡ getD sheet i 0 * 65536 + getD sheet (i + 1) 0 * 256 + getD sheet (i + 2) 0
+pub three : (sheet : List ℕ) (i : ℕ) → number 256 3 (drop i sheet) ≡ getD sheet i 0 * 65536 + getD sheet (i + 1) 0 * 256 + getD sheet (i + 2) 0
 unfolding number
 three sheet i =
     let e : i + 1 + 1 ≡ i + 2 = omega arith in
     word-step sheet 2 i ∙ rw (word-step sheet 1 (i + 1), word-step sheet 0 (i + 1 + 1), e) (omega arith)
 
 -- the field by shift and mask of that word
-pub in-three : (sheet : List ℕ) → Below 256 sheet → (place w a b d : ℕ) → w ≤ 16
-    → a ≡ getD sheet (place / 8) 0 → b ≡ getD sheet (place / 8 + 1) 0 → d ≡ getD sheet (place / 8 + 2) 0
-    → bitAnd ((a * 65536 + b * 256 + d) / 2 ^ (24 - place % 8 - w)) (1 * 2 ^ w % 4294967296 - 1) ≡ number 2 w (bitsAt sheet w place)
-in-three sheet bytes place w a b d h p q r =
+pub in-three : (sheet : List ℕ) → Below 256 sheet → (place w word after : ℕ) → w ≤ 16 → word ≡ number 256 3 (drop (place / 8) sheet) → place % 8 + w + after ≡ 24
+    → bitAnd (word / 2 ^ after) (1 * 2 ^ w % 4294967296 - 1) ≡ number 2 w (bitsAt sheet w place)
+in-three sheet bytes place w word after h p q =
     let e : 8 * (place / 8) + place % 8 ≡ place = omega arith in
-    rw (one-shifted w h, and-mask ((a * 65536 + b * 256 + d) / 2 ^ (24 - place % 8 - w)) w, p, q, r, ← three sheet (place / 8)) (rw e at (sym (field-word sheet bytes 3 (place / 8) (place % 8) w (24 - place % 8 - w) (omega arith))))
+    rw (one-shifted w h, and-mask (word / 2 ^ after) w, p) (rw e at (sym (field-word sheet bytes 3 (place / 8) (place % 8) w after q)))

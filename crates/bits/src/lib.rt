@@ -1,8 +1,8 @@
 // Bit fields of a lent sheet: the unsigned number that stands at a bit place, most significant bit first, or the word that
 // it runs past the end. A field of at most 16 bits is taken from the three bytes around its place.
 ghost use mathlib.Core.Path.{_≡_};
-ghost use Prim.Native.Nat.{_+_, _≤_, _<_};
-ghost use lib.ListN.{getD};
+ghost use Prim.Native.Nat.{_+_, _/_, _%_, _≤_, _<_};
+ghost use lib.ListN.{getD, drop};
 ghost use Rattle.model.specs.Digits.{number};
 ghost use Rattle.model.specs.Sheet.{bitsAt, field};
 ghost use Rattle.bits.specs.Field.{fieldOf};
@@ -20,15 +20,33 @@ fn byte(sheet: &[u8], i: usize) -> u32
     if i < sheet.len() { sheet[i] as u32 } else { 0 }
 }
 
+// The three bytes around a place as one word, the first byte's bits most significant, with zeros past the end.
+fn word(sheet: &[u8], place: usize) -> u32
+    ensures { λ r. ⌜ r ≡ number 256 3 (drop (place / 8) (now (sheet .entry))) ⌝ }
+{
+    let i = place / 8;
+    let first = byte(sheet, i);
+    let second = byte(sheet, i + 1);
+    let third = byte(sheet, i + 2);
+    first * 65536 + second * 256 + third
+}
+
+// How many bits of that word come after the field of w bits at a place.
+fn after(place: usize, w: usize) -> usize
+    requires { ⌜ w ≤ 16 ⌝ }
+    ensures { λ r. ⌜ place % 8 + w + r ≡ 24 ⌝ }
+{
+    24 - place % 8 - w
+}
+
 // The w bits from a place on as a number, with zeros past the end.
 pub fn value(sheet: &[u8], place: usize, w: usize) -> u32
     requires { ⌜ w ≤ 16 ⌝ }
     ensures { λ r. ⌜ r ≡ number 2 w (bitsAt (now (sheet .entry)) w place) ⌝ }
 {
-    let i = place / 8;
-    let word = byte(sheet, i) * 65536 + byte(sheet, i + 1) * 256 + byte(sheet, i + 2);
-    let after = 24 - place % 8 - w;
-    (word >> after) & ((1 << w) - 1)
+    let all = word(sheet, place);
+    let behind = after(place, w);
+    (all >> behind) & ((1 << w) - 1)
 }
 
 // The field of w bits at a place, or that it runs past the end.
