@@ -235,11 +235,14 @@ static void fill_satisfied(const struct search *s, uint64_t *held)
             join(held, s->sets->satisfied[v][s->values[v]]);
 }
 
-/* One trial: the satisfied set with the value's added; whether all due are in. */
+/* One trial: the satisfied set with the value's added; whether all due are in.
+ * Most trials fail at the first word, before the rest is joined. */
 static bool trial(const uint64_t *held, const uint64_t *satisfied, const uint64_t *due,
                   uint64_t *joined)
 {
     uint64_t lacking = 0;
+    if (due[0] & ~(held[0] | satisfied[0]))
+        return false;
     for (size_t i = 0; i < SET_WORDS; i++) {
         joined[i] = held[i] | satisfied[i];
         lacking |= due[i] & ~joined[i];

@@ -4,7 +4,7 @@ use mathlib.Core.Path.{_≡_, refl, sym, ap, ap₂, _∙_}
 use mathlib.Core.Bool.{true, false, not, _&&_, _||_}
 use native.Mathlib.Omega.{arith}
 use native.Mathlib.Nat.{pow-suc, mul-div-cancel, mul-mod-left, zero-min}
-use lib.Bits.{bitAnd, bitOr, bitXor, xor-shr, xor-mod, and-shr, and-mod, or-shr, or-mod, and-step}
+use lib.Bits.{bitAnd, bitOr, bitXor, xor-shr, xor-mod, and-shr, and-mod, or-shr, or-mod, and-step, and-le-l, and-le-r, or-add-and, xor-add-and, xor-self}
 use lib.Dec.{eqb, eqb·suc-suc, eqb·zero-suc, eqb·suc-zero}
 use borrow.Author.Tests.{eqb-true}
 use Rattle.consistency.specs.Sets.{bit}
@@ -76,3 +76,14 @@ and-within (suc n) a b h f =
     let low = min-digit (a % 2) (b % 2) (omega arith) (omega arith) (f 0 (omega arith)) in
     let high = and-within n (a / 2) (b / 2) (omega (arith, pow-suc 2 n)) (λ k l. f (suc k) (omega arith)) in
     and-step a b ∙ ap₂ (λ (x y : ℕ). x * 2 + y) high low ∙ omega arith
+
+-- `l | (a ^ (a & b))` is 0 exactly if l is and a's bits are all among b's
+pub none-lacks : (l a b : ℕ) → bitOr l (bitXor a (bitAnd a b)) ≡ 0 → (l ≡ 0) × (bitAnd a b ≡ a)
+none-lacks l a b e =
+    let x = bitXor a (bitAnd a b) in
+    let sum = or-add-and l x in
+    let z : (l ≡ 0) × (x ≡ 0) = (omega (arith, sum, e, and-le-r l x), omega (arith, sum, e, and-le-l l x)) in
+    (z .0, omega (arith, z .1, xor-add-and a (bitAnd a b), and-le-r a (bitAnd a b), and-le-l a b))
+
+pub lacks-none : (l a b : ℕ) → l ≡ 0 → bitAnd a b ≡ a → bitOr l (bitXor a (bitAnd a b)) ≡ 0
+lacks-none l a b z e = rw (z, e) (xor-self a)

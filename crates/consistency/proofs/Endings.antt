@@ -1,11 +1,12 @@
 -- How the model's test ends and how the code does: from one to the other and back. Assumes nothing.
-use mathlib.Core.Path.{_≡_}
+use mathlib.Core.Path.{_≡_, refl}
 use mathlib.Core.List.{List}
-use Prim.Native.Nat.{ℕ}
+use Prim.Native.Nat.{ℕ, zero, suc, _+_, _/_, _%_, _<_}
+use native.Mathlib.Omega.{arith}
 use Rattle.model.specs.Consistency.{Tested, consistent, inconsistent, spent}
 use Rattle.consistency.specs.declared.Answer.{Answer}
 use Rattle.consistency.specs.declared.Answer.the-variants.{Consistent, Inconsistent, Spent}
-use Rattle.consistency.specs.Answers.{answerOf, leaves, Ended}
+use Rattle.consistency.specs.Answers.{answerOf, leaves, Ended, answerAs, answerIn}
 
 module _ (e : Tested) (before after : List ℕ) (t : ℕ) where
   pub as-consistent : e ≡ consistent after t → Ended e before after (Consistent t)
@@ -49,3 +50,34 @@ module _ (e : Tested) (before after : List ℕ) (t : ℕ) where
 
 pub moved : (e d : Tested) (before after : List ℕ) (r : Answer) → e ≡ d → Ended d before after r → Ended e before after r
 moved e d before after r q h = record { answer = rw q (h .answer); left = rw q (h .left) }
+
+-- ---- an answer as one number
+
+module _ (t : ℕ) (h : t < 4294967296) where
+  pub in-inconsistent : answerIn t ≡ Inconsistent t
+  unfolding answerIn answerAs
+  in-inconsistent =
+      let d : t / 4294967296 ≡ 0 = omega arith in
+      let m : t % 4294967296 ≡ t = omega arith in
+      rw (d, m)
+
+  pub in-consistent : answerIn (4294967296 + t) ≡ Consistent t
+  unfolding answerIn answerAs
+  in-consistent =
+      let d : (4294967296 + t) / 4294967296 ≡ 1 = omega arith in
+      let m : (4294967296 + t) % 4294967296 ≡ t = omega arith in
+      rw (d, m)
+
+  pub in-spent : answerIn (8589934592 + t) ≡ Spent t
+  unfolding answerIn answerAs
+  in-spent =
+      let d : (8589934592 + t) / 4294967296 ≡ 2 = omega arith in
+      let m : (8589934592 + t) % 4294967296 ≡ t = omega arith in
+      rw (d, m)
+
+-- and back
+pub as-rest : (k t : ℕ) → (k ≡ 0 → ⊥) → (k ≡ 1 → ⊥) → answerAs k t ≡ Spent t
+unfolding answerAs
+as-rest zero t a b = absurd (a refl)
+as-rest (suc zero) t a b = absurd (b refl)
+as-rest (suc (suc k)) t a b = refl

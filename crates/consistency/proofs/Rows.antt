@@ -1,17 +1,19 @@
 -- From the words of a row to the clauses in its set. Assumes nothing.
-use mathlib.Core.Path.{_≡_, refl, sym, ap, _∙_}
+use mathlib.Core.Path.{_≡_, refl, sym, ap, ap₂, _∙_}
 use mathlib.Core.Bool.{Bool, true, not, _&&_, _||_}
 use mathlib.Core.List.{List}
 use Prim.Native.Nat.{ℕ, _+_, _*_, _/_, _%_, _^_, _<_, _≤_}
 use native.Mathlib.Omega.{arith}
 use native.Mathlib.Decide.{ℕ-discrete, decLt}
 use borrow.Author.Count.{below-more}
+use borrow.Author.Tests.{eqb-true}
 use lib.Bits.{bitAnd, bitOr, bitXor}
+use lib.Dec.{eqb}
 use lib.ListN.{length, getD, set, length-set}
 use lib.Seq.{getD-set-same, getD-set-other}
 use Rattle.theory.proofs.Lists.{and-both}
-use Rattle.consistency.specs.Sets.{bit, inSet, Joined, Less}
-use Rattle.consistency.proofs.Bits.{bit-and, bit-or, bit-less, and-within}
+use Rattle.consistency.specs.Sets.{bit, inSet, Joined, Covers, Less}
+use Rattle.consistency.proofs.Bits.{bit-and, bit-or, bit-less, and-within, none-lacks, lacks-none}
 
 -- a set in row 0
 in-first : (held : List ℕ) (c : ℕ) → inSet held 0 c ≡ bit (getD held (c / 64) 0) (c % 64)
@@ -79,6 +81,52 @@ module _ (table held : List ℕ) (row : ℕ) where
       and-within 64 (getD table (row * 8 + j) 0) (getD held j 0) b
       (λ k l i. let e : 0 * 8 + j ≡ j = omega arith in
       rw e at (sym (at-word held 0 j k l) ∙ f (j * 64 + k) (omega arith) (at-word table row j k l ∙ i)))
+
+  -- so far nothing lacks, exactly if no word before k has a bit that the set has not
+  pub record Lacking (lacks k : ℕ) : Type 0 where
+    pub none : lacks ≡ 0 → (j : ℕ) → j < k → Inside j
+    pub only : ((j : ℕ) → j < k → getD table (row * 8 + j) 0 < 2 ^ 64 → Inside j) → lacks ≡ 0
+
+  pub lacking-first : Lacking 0 0
+  lacking-first = record { none = λ e j h. absurd (omega arith); only = λ f. refl }
+
+  pub lacking-step : (lacks k : ℕ) → getD table (row * 8 + k) 0 < 2 ^ 64 → Lacking lacks k
+      → Lacking (bitOr lacks (bitXor (getD table (row * 8 + k) 0) (bitAnd (getD table (row * 8 + k) 0) (getD held k 0)))) (k + 1)
+  lacking-step lacks k b l = record {
+    none = λ e. let z = none-lacks lacks (getD table (row * 8 + k) 0) (getD held k 0) e in below-more Inside k (l .none (z .0)) (z .1);
+    only = λ f. lacks-none lacks (getD table (row * 8 + k) 0) (getD held k 0) (l .only (λ j h. f j (omega arith))) (f k (omega arith) b);
+  }
+
+  pub lacking-end : (lacks : ℕ) → Lacking lacks 8 → Covers table row (inSet held 0) (eqb lacks 0)
+  lacking-end lacks l = record {
+    all = λ e. inside-all (l .none (eqb-true lacks 0 e));
+    only = λ f. let z = l .only (all-inside f) in rw z;
+  }
+
+-- ---- a row within a set and another row
+
+module _ (table set other : List ℕ) (row at′ : ℕ) where
+  -- by the set with the other row added
+  pub covers-joined : (more : List ℕ) (r : Bool) → Joined set other at′ true more → Covers table row (inSet more 0) r
+      → Covers table row (λ c. inSet set 0 c || inSet other at′ c) r
+  covers-joined more r j d = record {
+    all = λ e c h i. sym (j .has c h) ∙ d .all e c h i;
+    only = λ f. d .only (λ c h i. j .has c h ∙ f c h i);
+  }
+
+  -- then the first word has no bit that the two have not
+  pub first-inside : ((c : ℕ) → c < 512 → inSet table row c ≡ true → (inSet set 0 c || inSet other at′ c) ≡ true) → getD table (row * 8) 0 < 2 ^ 64
+      → bitAnd (getD table (row * 8) 0) (bitOr (getD set 0 0) (getD other (at′ * 8) 0)) ≡ getD table (row * 8) 0
+  first-inside f b =
+      and-within 64 (getD table (row * 8) 0) (bitOr (getD set 0 0) (getD other (at′ * 8) 0)) b
+      (λ k l i. bit-or (getD set 0 0) (getD other (at′ * 8) 0) k
+      ∙ sym (ap₂ _||_ (low set 0 k l) (low other at′ k l)) ∙ f k (omega arith) (low table row k l ∙ i))
+    where
+      low : (xs : List ℕ) (r k : ℕ) → k < 64 → inSet xs r k ≡ bit (getD xs (r * 8) 0) k
+      low xs r k l =
+          let e : 0 * 64 + k ≡ k = omega arith in
+          let w : r * 8 + 0 ≡ r * 8 = omega arith in
+          rw (e, w) at (at-word xs r 0 k l)
 
 -- ---- a row less a set, stored word by word
 

@@ -3,7 +3,7 @@ use mathlib.Core.Path.{_≡_, refl, sym, ap, ap₂, _∙_}
 use mathlib.Core.Bool.{Bool, true, false, _||_, true≢false}
 use mathlib.Core.Option.{none, some}
 use mathlib.Core.List.{List, map}
-use Prim.Native.Nat.{ℕ, suc, _+_, _-_, _*_, _<_, _≤_}
+use Prim.Native.Nat.{ℕ, zero, suc, _+_, _-_, _*_, _<_, _≤_}
 use native.Mathlib.Omega.{arith}
 use native.Mathlib.Numerals.{add-one}
 use lib.ListN.{length, getD, set, length-set}
@@ -19,7 +19,7 @@ use Rattle.consistency.specs.declared.Answer.{Answer}
 use Rattle.consistency.specs.declared.Answer.the-variants.{Consistent, Inconsistent, Spent}
 use Rattle.consistency.specs.Answers.{given, Ended}
 use Rattle.consistency.specs.Sets.{inSet, SetOf, Joined, Covers}
-use Rattle.consistency.specs.Given.{Room, Stands, Searches}
+use Rattle.consistency.specs.Given.{Room, NextFree, Stands, Searches}
 use Rattle.consistency.proofs.Endings.{as-consistent, as-inconsistent, as-spent, was-consistent, was-inconsistent, was-spent, moved}
 use Rattle.consistency.proofs.Bytes.{given-length, given-at, given-set, given-none, given-some, filled-values}
 
@@ -27,7 +27,7 @@ use Rattle.consistency.proofs.Bytes.{given-length, given-at, given-set,
 
 module _ (sizes sat last vals : List ℕ) (v : ℕ) (room : Room sizes sat last vals v) where
   -- behind the last variable all are assigned
-  pub all-set : v ≡ length sizes → (held : List ℕ) (used limit : ℕ) → Searches sizes sat last vals held v used limit vals (Consistent used)
+  all-set : v ≡ length sizes → (held : List ℕ) (used limit : ℕ) → Searches sizes sat last vals held v used limit vals (Consistent used)
   unfolding explore
   all-set e held used limit cs s =
       let z : length sizes - v ≡ 0 = omega arith in
@@ -61,9 +61,42 @@ module _ (sizes sat last vals : List ℕ) (v : ℕ) (room : Room sizes sat last 
           clear = s .clear;
         })
 
+-- ---- from `from` on to the next unassigned variable v
+
+module _ (sizes sat last vals : List ℕ) (from v : ℕ) (room : Room sizes sat last vals from) (next : NextFree vals from v) where
+  pub room-at : Room sizes sat last vals v
+  room-at = record {
+    upto = omega (arith, next .upto, room .same);
+    few = room .few;
+    small = room .small;
+    same = room .same;
+    sat-long = room .sat-long;
+    last-long = room .last-long;
+  }
+
+  -- the variables between have values
+  pub passed-over : (held : List ℕ) (used limit : ℕ) (after : List ℕ) (r : Answer)
+      → Searches sizes sat last vals held v used limit after r → Searches sizes sat last vals held from used limit after r
+  passed-over held used limit after r deep =
+      let e : from + (v - from) ≡ v = omega (arith, next .after) in
+      go (v - from) from room (omega (arith, next .upto, room .same)) (λ u a b. next .set u a (omega arith)) (rw e deep)
+    where
+      go : (n w : ℕ) → Room sizes sat last vals w → w + n ≤ length sizes → ((u : ℕ) → w ≤ u → u < w + n → getD vals u 0 ≡ 16 → ⊥)
+          → Searches sizes sat last vals held (w + n) used limit after r → Searches sizes sat last vals held w used limit after r
+      go zero w room h has deep = let e : w + 0 ≡ w = omega arith in rw e at deep
+      go (suc n) w room h has deep =
+          let e : w + suc n ≡ w + 1 + n = omega arith in
+          let lt : w < length sizes = omega arith in
+          passed sizes sat last vals w room lt (has w (omega arith) (omega arith)) held used limit after r
+          (go n (w + 1) (room-next sizes sat last vals w room lt) (omega arith) (λ u a b. has u (omega arith) (omega arith)) (rw e at deep))
+
+  -- behind them no variable is left
+  pub none-left : v ≡ length sizes → (held : List ℕ) (used limit : ℕ) (r : Answer) → r ≡ Consistent used → Searches sizes sat last vals held from used limit vals r
+  none-left e held used limit r q = passed-over held used limit vals r (rw q (all-set sizes sat last vals v room-at e held used limit))
+
 -- ---- the loop over the values of v
 
-module _ (sizes sat last vals₀ held : List ℕ) (v used limit size : ℕ) where
+module _ (sizes sat last vals₀ held : List ℕ) (from v used limit size : ℕ) where
   -- the assignment where the loop begins, and what the model says of it from v on, and of another from the next variable on
   abbrev a₀ : Assignment
   a₀ = map given vals₀
@@ -82,40 +115,53 @@ module _ (sizes sat last vals₀ held : List ℕ) (v used limit size : ℕ) wher
     pub sized : size ≡ getD sizes v 0
     pub upto : x ≤ size
     pub long : length vals ≡ length vals₀
+    pub over : (after : List ℕ) (r : Answer) → Searches sizes sat last vals₀ held v used limit after r → Searches sizes sat last vals₀ held from used limit after r
     pub back : (cs : List (List Literal)) → Stands cs sat last vals₀ held v → set vals v 16 ≡ vals₀
     pub says : (cs : List (List Literal)) → Stands cs sat last vals₀ held v → Says cs ≡ tryValues cs limit (deeper cs) v a₀ (size - x) x u
 
   -- the first turn
-  pub turn-first : Room sizes sat last vals₀ v → v < length sizes → getD vals₀ v 0 ≡ 16 → size ≡ getD sizes v 0 → Turn vals₀ used 0
-  turn-first room lt free sized = record {
+  pub turn-first : Room sizes sat last vals₀ from → NextFree vals₀ from v → (v ≡ length sizes → ⊥) → size ≡ getD sizes v 0 → Turn vals₀ used 0
+  turn-first start next n sized = record {
     room = room;
     below = lt;
     free = free;
     sized = sized;
     upto = omega arith;
     long = refl;
+    over = passed-over sizes sat last vals₀ from v start next held used limit;
     back = λ cs s. ap (set vals₀ v) (sym free) ∙ set-getD vals₀ v 0;
     says = λ cs s.
         let z : size - 0 ≡ getD sizes v 0 = omega arith in
         rw (more sizes sat last vals₀ v room lt, z)
         (hop-try cs limit sizes (length sizes - (v + 1)) v used a₀ (here sizes sat last vals₀ v room lt ∙ given-none (getD vals₀ v 0) free));
   }
+    where
+      room : Room sizes sat last vals₀ v
+      room = room-at sizes sat last vals₀ from v start next
+
+      lt : v < length sizes
+      lt = omega (arith, next .upto, start .same)
+
+      free : getD vals₀ v 0 ≡ 16
+      free = next .free (omega (arith, start .same))
 
   module _ (vals : List ℕ) (u x : ℕ) (t : Turn vals u x) where
     -- every value was tried
-    pub turn-end : size ≤ x → Searches sizes sat last vals₀ held v used limit (set vals v 16) (Inconsistent u)
+    pub turn-end : size ≤ x → (r : Answer) → r ≡ Inconsistent u → Searches sizes sat last vals₀ held from used limit (set vals v 16) r
     unfolding tryValues
-    turn-end h cs s =
+    turn-end h r e =
         let z : size - x ≡ 0 = omega arith in
-        as-inconsistent (Says cs) vals₀ (set vals v 16) u (t .says cs s ∙ rw z) (t .back cs s)
+        t .over (set vals v 16) r (λ cs s. rw e (as-inconsistent (Says cs) vals₀ (set vals v 16) u (t .says cs s ∙ rw z) (t .back cs s)))
 
     module _ (lt : x < size) where
       left : size - x ≡ suc (size - (x + 1))
       left = omega arith
 
       -- no trial is left
-      pub turn-stop : limit ≤ u → Searches sizes sat last vals₀ held v used limit (set vals v 16) (Spent u)
-      turn-stop h cs s = as-spent (Says cs) vals₀ (set vals v 16) u (t .says cs s ∙ rw left (turn-spent cs limit (deeper cs) v a₀ (size - (x + 1)) x u h)) (t .back cs s)
+      pub turn-stop : limit ≤ u → (r : Answer) → r ≡ Spent u → Searches sizes sat last vals₀ held from used limit (set vals v 16) r
+      turn-stop h r e =
+          t .over (set vals v 16) r
+          (λ cs s. rw e (as-spent (Says cs) vals₀ (set vals v 16) u (t .says cs s ∙ rw left (turn-spent cs limit (deeper cs) v a₀ (size - (x + 1)) x u h)) (t .back cs s)))
 
       pub value : x < 16
       value = omega (arith, t .room .small v, t .sized)
@@ -140,8 +186,8 @@ module _ (sizes sat last vals₀ held : List ℕ) (v used limit size : ℕ) wher
       a = set a₀ v (some x)
 
       -- what the sets say after it
-      module _ (ul : u < limit) (row : ℕ) (joined : List ℕ) (r : Bool) (at-row : row ≡ v * 16 + x)
-          (joins : Joined held sat row true joined) (covers : Covers last v joined r) (cs : List (List Literal)) (s : Stands cs sat last vals₀ held v) where
+      module _ (ul : u < limit) (row : ℕ) (r : Bool) (at-row : row ≡ v * 16 + x)
+          (covers : Covers last v (λ c. inSet held 0 c || inSet sat row c) r) (cs : List (List Literal)) (s : Stands cs sat last vals₀ held v) where
         placed : map given (set vals v x) ≡ a
         placed =
             ap (map given) (sym (ap (λ (l : List ℕ). set l v x) (sym (t .back cs s)) ∙ set-set vals v 16 x))
@@ -153,12 +199,10 @@ module _ (sizes sat last vals₀ held : List ℕ) (v used limit size : ℕ) wher
         free₀ : getD a₀ v none ≡ none
         free₀ = here sizes sat last vals₀ v (t .room) (t .below) ∙ given-none (getD vals₀ v 0) (t .free)
 
-        holds-now : SetOf (satisfied a) cs joined 0
-        holds-now = record {
-          has = λ c h. joins .has c h
-              ∙ ap₂ _||_ (s .holds .has c h) (ap (λ (k : ℕ). inSet sat k c) at-row ∙ s .satisfies v x (omega (arith, t .below, t .room .few)) value .has c h)
-              ∙ sym (satisfied-set a₀ v x inside₀ free₀ (nth cs c));
-        }
+        holds-now : (c : ℕ) → c < 512 → (inSet held 0 c || inSet sat row c) ≡ satisfied a (nth cs c)
+        holds-now c h =
+            ap₂ _||_ (s .holds .has c h) (ap (λ (k : ℕ). inSet sat k c) at-row ∙ s .satisfies v x (omega (arith, t .below, t .room .few)) value .has c h)
+            ∙ sym (satisfied-set a₀ v x inside₀ free₀ (nth cs c))
 
         dues : SetOf (due a₀ v) cs last v
         dues = s .dues .has v (omega arith) (omega (arith, t .room .same, t .below)) free₀
@@ -166,22 +210,22 @@ module _ (sizes sat last vals₀ held : List ℕ) (v used limit size : ℕ) wher
         -- the test passes exactly if no clause is false
         clear : r ≡ true → anyFalse a cs ≡ false
         clear e = trial-clear cs a₀ v x inside₀ free₀ (s .filled) (s .clear)
-            (λ c l d. let b : c < 512 = omega (arith, s .many) in sym (holds-now .has c b) ∙ covers .all e c b (dues .has c b ∙ d))
+            (λ c l d. let b : c < 512 = omega (arith, s .many) in sym (holds-now c b) ∙ covers .all e c b (dues .has c b ∙ d))
 
         shut : r ≡ false → anyFalse a cs ≡ true
         shut e = go (anyFalse a cs) refl
           where
             go : (b : Bool) → anyFalse a cs ≡ b → anyFalse a cs ≡ true
             go true q = q
-            go false q = absurd (true≢false (sym (covers .only (λ c b i. holds-now .has c b ∙ trial-satisfied cs a₀ v x inside₀ free₀ (s .filled) q c (sym (dues .has c b) ∙ i))) ∙ e))
+            go false q = absurd (true≢false (sym (covers .only (λ c b i. holds-now c b ∙ trial-satisfied cs a₀ v x inside₀ free₀ (s .filled) q c (sym (dues .has c b) ∙ i))) ∙ e))
 
         -- where it passes, the search stands at the next variable
-        stands-set : r ≡ true → Stands cs sat last (set vals v x) joined (v + 1)
-        stands-set e = record {
+        stands-set : r ≡ true → (joined : List ℕ) → Joined held sat row true joined → Stands cs sat last (set vals v x) joined (v + 1)
+        stands-set e joined joins = record {
           many = s .many;
           satisfies = s .satisfies;
           dues = record { has = λ w h l f. rw placed (next w h l (rw placed at f)) };
-          holds = rw placed holds-now;
+          holds = record { has = λ c h. rw placed (joins .has c h ∙ holds-now c h) };
           filled = rw placed (filled-next a₀ v x inside₀ free₀ (s .filled));
           clear = rw placed (clear e);
         }
@@ -217,35 +261,35 @@ module _ (sizes sat last vals₀ held : List ℕ) (v used limit size : ℕ) wher
         sized = t .sized;
         upto = omega arith;
         long = p ∙ length-set vals v x ∙ t .long;
+        over = t .over;
         back = λ cs s. ap (λ (l : List ℕ). set l v 16) (k cs s .0) ∙ set-set vals v x 16 ∙ t .back cs s;
         says = λ cs s. k cs s .1;
       }
 
-      module _ (ul : u < limit) (row : ℕ) (joined : List ℕ) (r : Bool) (at-row : row ≡ v * 16 + x)
-          (joins : Joined held sat row true joined) (covers : Covers last v joined r) where
+      module _ (ul : u < limit) (row : ℕ) (r : Bool) (at-row : row ≡ v * 16 + x) (covers : Covers last v (λ c. inSet held 0 c || inSet sat row c) r) where
         -- the test failed
         pub turn-again : r ≡ false → (vals′ : List ℕ) (u′ : ℕ) → vals′ ≡ set vals v x → u′ ≡ u + 1 → Turn vals′ u′ (x + 1)
-        turn-again e vals′ u′ p q = again vals′ u′ (ap length p) (λ cs s. (p, rw q (tried-next ul row joined r at-row joins covers cs s e)))
+        turn-again e vals′ u′ p q = again vals′ u′ (ap length p) (λ cs s. (p, rw q (tried-next ul row r at-row covers cs s e)))
 
         -- the test passed, and the search from the next variable on ended
-        module _ (passes : r ≡ true) (after : List ℕ) (b : Answer) (n : ℕ)
+        module _ (passes : r ≡ true) (joined : List ℕ) (joins : Joined held sat row true joined) (after : List ℕ) (b : Answer) (n : ℕ)
             (deep : Searches sizes sat last (set vals v x) joined (v + 1) (u + 1) limit after b) where
           module _ (cs : List (List Literal)) (s : Stands cs sat last vals₀ held v) where
             ended : Ended (deeper cs (u + 1) (map given (set vals v x))) (set vals v x) after b
-            ended = deep cs (stands-set ul row joined r at-row joins covers cs s passes)
+            ended = deep cs (stands-set ul row r at-row covers cs s passes joined joins)
 
             says-deeper : (d : Tested) → deeper cs (u + 1) (map given (set vals v x)) ≡ d → Says cs ≡ orElse d (tryValues cs limit (deeper cs) v a₀ (size - (x + 1)) (x + 1))
-            says-deeper = tried-deeper ul row joined r at-row joins covers cs s passes
+            says-deeper = tried-deeper ul row r at-row covers cs s passes
 
-            pub deep-found : b ≡ Consistent n → Ended (Says cs) vals₀ after (Consistent n)
+            found : b ≡ Consistent n → Ended (Says cs) vals₀ after (Consistent n)
             unfolding orElse
-            deep-found q =
+            found q =
                 as-consistent (Says cs) vals₀ after n
                 (says-deeper (consistent after n) (was-consistent (deeper cs (u + 1) (map given (set vals v x))) (set vals v x) after n b ended q))
 
-            pub deep-stop : b ≡ Spent n → Ended (Says cs) vals₀ (set after v 16) (Spent n)
+            stopped : b ≡ Spent n → Ended (Says cs) vals₀ (set after v 16) (Spent n)
             unfolding orElse
-            deep-stop q =
+            stopped q =
                 let e = was-spent (deeper cs (u + 1) (map given (set vals v x))) (set vals v x) after n b ended q in
                 as-spent (Says cs) vals₀ (set after v 16) n (says-deeper (spent n) (e .0))
                 (ap (λ (l : List ℕ). set l v 16) (e .1) ∙ set-set vals v x 16 ∙ t .back cs s)
@@ -255,6 +299,12 @@ module _ (sizes sat last vals₀ held : List ℕ) (v used limit size : ℕ) wher
             deep-next q =
                 let e = was-inconsistent (deeper cs (u + 1) (map given (set vals v x))) (set vals v x) after n b ended q in
                 (e .1, says-deeper (inconsistent n) (e .0))
+
+          pub deep-found : b ≡ Consistent n → (a : Answer) → a ≡ Consistent n → Searches sizes sat last vals₀ held from used limit after a
+          deep-found q a e = t .over after a (λ cs s. rw e (found cs s q))
+
+          pub deep-stop : b ≡ Spent n → (a : Answer) → a ≡ Spent n → Searches sizes sat last vals₀ held from used limit (set after v 16) a
+          deep-stop q a e = t .over (set after v 16) a (λ cs s. rw e (stopped cs s q))
 
           pub deep-again : b ≡ Inconsistent n → length after ≡ length (set vals v x) → (vals′ : List ℕ) (u′ : ℕ) → vals′ ≡ after → u′ ≡ n → Turn vals′ u′ (x + 1)
           deep-again q l vals′ u′ p w = rw (p, w) (again after n l (λ cs s. deep-next cs s q))

@@ -3,7 +3,7 @@ use mathlib.Core.Path.{_≡_}
 use mathlib.Core.Bool.{Bool, true, false, not}
 use mathlib.Core.Option.{Option, none, some}
 use mathlib.Core.List.{List}
-use Prim.Native.Nat.{ℕ}
+use Prim.Native.Nat.{ℕ, zero, suc, _/_, _%_}
 use lib.Dec.{eqb}
 use lib.ListN.{length}
 use Rattle.model.specs.Sheet.{Literal}
@@ -44,3 +44,15 @@ leaves before (spent t) = before
 pub record Ended (e : Tested) (before after : List ℕ) (r : Answer) : Type 0 where
   pub answer : r ≡ answerOf e
   pub left : after ≡ leaves before e
+
+-- ---- an answer as one number
+
+-- how it ended, by number
+unfoldable pub answerAs : ℕ → ℕ → Answer
+answerAs zero t = Inconsistent t
+answerAs (suc zero) t = Consistent t
+answerAs (suc (suc k)) t = Spent t
+
+-- the trials in the lower half of the word, and how it ended in the upper
+unfoldable pub answerIn : ℕ → Answer
+answerIn r = answerAs (r / 4294967296) (r % 4294967296)

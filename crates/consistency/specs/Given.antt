@@ -78,6 +78,13 @@ pub record Room (sizes sat last vals : List ℕ) (v : ℕ) : Type 0 where
   pub sat-long : 6144 ≤ length sat
   pub last-long : 384 ≤ length last
 
+-- v is the first unassigned variable from `from` on, or their number
+pub record NextFree (vals : List ℕ) (from v : ℕ) : Type 0 where
+  pub after : from ≤ v
+  pub upto : v ≤ length vals
+  pub set : (u : ℕ) → from ≤ u → u < v → getD vals u 0 ≡ 16 → ⊥
+  pub free : v < length vals → getD vals v 0 ≡ 16
+
 -- where it stands: the variables before v are assigned, no clause is false, and the sets are those of this assignment
 pub record Stands (cs : List (List Literal)) (sat last vals held : List ℕ) (v : ℕ) : Type 0 where
   pub many : length cs ≤ 512

@@ -26,10 +26,10 @@ pub record SetOf (test : List Literal → Bool) (cs : List (List Literal)) (tabl
 pub record Joined (set table : List ℕ) (row : ℕ) (on : Bool) (joined : List ℕ) : Type 0 where
   pub has : (c : ℕ) → c < 512 → inSet joined 0 c ≡ (inSet set 0 c || on && inSet table row c)
 
--- r says whether each clause of the row is in the set
-pub record Covers (table : List ℕ) (row : ℕ) (set : List ℕ) (r : Bool) : Type 0 where
-  pub all : r ≡ true → (c : ℕ) → c < 512 → inSet table row c ≡ true → inSet set 0 c ≡ true
-  pub only : ((c : ℕ) → c < 512 → inSet table row c ≡ true → inSet set 0 c ≡ true) → r ≡ true
+-- r says whether each clause of the row is among those that `has` names
+pub record Covers (table : List ℕ) (row : ℕ) (has : ℕ → Bool) (r : Bool) : Type 0 where
+  pub all : r ≡ true → (c : ℕ) → c < 512 → inSet table row c ≡ true → has c ≡ true
+  pub only : ((c : ℕ) → c < 512 → inSet table row c ≡ true → has c ≡ true) → r ≡ true
 
 -- the row of `after` holds what the row of the table holds and the set does not, and no other row changed
 pub record Less (before table : List ℕ) (row : ℕ) (set after : List ℕ) : Type 0 where

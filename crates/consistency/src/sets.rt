@@ -1,10 +1,10 @@
 // Sets of at most 512 clauses: a set is eight words, and a table has a set in each of its rows.
 ghost use mathlib.Core.Path.{_≡_};
-ghost use mathlib.Core.Bool.{true};
+ghost use mathlib.Core.Bool.{true, _||_};
 ghost use Prim.Native.Nat.{_+_, _*_, _<_, _≤_};
 ghost use lib.ListN.{length};
 ghost use lib.Dec.{eqb};
-ghost use Rattle.consistency.specs.Sets.{Joined, Covers, Less, Marked};
+ghost use Rattle.consistency.specs.Sets.{inSet, Joined, Covers, Less, Marked};
 
 // The words of a set, and of a row.
 const WORDS: usize = 8;
@@ -34,20 +34,31 @@ pub fn joined_if(set: [u64; 8], table: &[u64], row: usize, on: bool) -> [u64; 8]
     set
 }
 
-// Whether each clause of the row is in the set.
+// Whether each clause of the row is in the set. One test at the end is faster than one for each word.
 pub fn covers(table: &[u64], row: usize, set: [u64; 8]) -> bool
     requires { ⌜ row * 8 + 8 ≤ length (now table) ⌝ }
-    ensures { λ r. ⌜ Covers (now (table .entry)) row set r ⌝ }
+    ensures { λ r. ⌜ Covers (now (table .entry)) row (inSet set 0) r ⌝ }
 {
+    let mut lacks = 0u64;
     let mut k = 0;
     while k < WORDS {
         let due = table[row * 8 + k];
-        if due & set[k] != due {
-            return false;
-        }
+        lacks = lacks | (due ^ (due & set[k]));
         k += 1;
     }
-    true
+    lacks == 0
+}
+
+// Whether each clause of the row is in the set or in the other table's row. Most trials end at the first word, before the set is joined.
+pub fn covers_with(table: &[u64], row: usize, set: [u64; 8], other: &[u64], at: usize) -> bool
+    requires { ⌜ (row * 8 + 8 ≤ length (now table)) × (at * 8 + 8 ≤ length (now other)) ⌝ }
+    ensures { λ r. ⌜ Covers (now (table .entry)) row (λ c. inSet set 0 c || inSet (now (other .entry)) at c) r ⌝ }
+{
+    let due = table[row * 8];
+    if due & (set[0] | other[at * 8]) != due {
+        return false;
+    }
+    covers(table, row, joined(set, other, at))
 }
 
 // Stores in the row the clauses of the same row of the other table that are not in the set.
