@@ -11,7 +11,7 @@ ghost use Rattle.model.specs.Listing.{checkOffers};
 ghost use Rattle.model.specs.Calls.{offersOf};
 ghost use Rattle.store.specs.Store.{Keeps};
 ghost use Rattle.conflict.specs.Given.{Ready, ForPlant};
-ghost use Rattle.listing.specs.Offers.{CheckedOne, OfferedAs};
+ghost use Rattle.listing.specs.Offers.{CheckedOne, OneMore, OfferedAs};
 
 // How many entries survived, with the trials made: all were checked, or the limit struck before.
 pub enum Offered {
@@ -35,7 +35,8 @@ fn check(
     limit: u32,
 ) -> Offered
     requires { ⌜ Ready d (now sizes) (now counts) (now lits) (now sat) (now uses) (now vals) × (2 * i + 2 ≤ length (now store)) × (m ≤ i) ⌝ }
-    ensures { λ r. ⌜ ForPlant d (now (sizes .entry)) (now (counts .entry)) (now (lits .entry)) (λ p. (held : ℕ) (survivors : List Assignment) → i < held → 2 * held ≤ length (now (store .entry))
+    ensures few { λ r. ⌜ OneMore m r ⌝ }
+    ensures one { λ r. ⌜ ForPlant d (now (sizes .entry)) (now (counts .entry)) (now (lits .entry)) (λ p. (held : ℕ) (survivors : List Assignment) → i < held → 2 * held ≤ length (now (store .entry))
         → Keeps (length (p .costs)) (now (store .entry)) m survivors → CheckedOne p limit held i survivors used (now (store .entry)) (now (store .exit)) r) ⌝ }
 {
     let e = store::entry_at(store, i);
