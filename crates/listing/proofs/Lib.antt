@@ -1,1 +1,3 @@
 pub mod Offering
+pub mod Running
+pub mod Starting

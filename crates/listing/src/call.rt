@@ -71,8 +71,8 @@ fn from_root(
     k: u32,
     limit: u32,
 ) -> Finished
-    requires { ⌜ Lists d (now sizes) (now prices) (now counts) (now lits) (now sat) (now uses) (now vals) preferred k 0 (buffers (now codes) (now costs) (now queue) (now store))
-        × ((p : Plant) × (survivors : List Assignment) × Survivors p limit survivors used (now store) stored) ⌝ }
+    requires { ⌜ ((t : Lists d (now sizes) (now prices) (now counts) (now lits) (now sat) (now uses) (now vals) preferred k 0 (buffers (now codes) (now costs) (now queue) (now store)))
+        × (survivors : List Assignment) × Survivors (t .plant) limit survivors used (now store) stored) ⌝ }
     ensures { λ r. ⌜ ((t : Lists d (now (sizes .entry)) (now (prices .entry)) (now (counts .entry)) (now (lits .entry)) (now (sat .entry)) (now (uses .entry)) (now (vals .entry)) preferred k 0 (buffers (now (codes .entry)) (now (costs .entry)) (now (queue .entry)) (now (store .entry))))
         (survivors : List Assignment) → Survivors (t .plant) limit survivors used (now (store .entry)) stored
         → FinishedAs (question (t .plant) k (now (codes .entry)) (now (costs .entry))) (now (store .exit)) (now (codes .exit)) (now (costs .exit)) r
