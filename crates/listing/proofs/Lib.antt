@@ -1,3 +1,4 @@
 pub mod Offering
 pub mod Running
 pub mod Starting
+pub mod Refusing

@@ -203,7 +203,7 @@ fn list_tables(
 fn unfit(k: u32, codes: usize, costs: usize, queue: usize, store: usize, held: usize, short: bool) -> u32
     ensures { λ r. ⌜ ((b : Buffers) → length (b .codes) ≡ codes → length (b .costs) ≡ costs → length (b .queue) ≡ queue → length (b .store) ≡ store → r ≡ groundNumber (firstGiven (hostGrounds k b held short))) ⌝ }
 {
-    if (k < 1) | (k > 4096) {
+    if !((1 <= k) & (k <= 4096)) {
         return 1;
     }
     let wanted = k as usize;

@@ -1,27 +1,22 @@
+-- `call::unfit` meets its contract: its tests are the model's grounds, in their order. Assumes nothing.
+use Rattle.listing.proofs.Refusing.{first-ground, second-ground, third-ground, fourth-ground, no-ground}
 use Rattle.listing.proofs.call.unfit.Statement.{statement}
 use Rattle.listing.proofs.call.unfit.Tie as tie
-use Rattle.listing.proofs.call.unfit.Reads as reads
-use Rattle.listing.proofs.call.unfit.Lts as lts
 
--- src/call.rt:206:9
 returns : tie.Need-returns
-returns c = ?
+returns c b ec ed eq es = first-ground _ _ _ _ _ _ _ b ec ed eq es (c .if1 .taken)
 
--- src/call.rt:210:9
 returns-2 : tie.Need-returns-2
-returns-2 c = ?
+returns-2 c b ec ed eq es = second-ground _ _ _ _ _ _ _ b ec ed eq es (c .before .if1 .left) (c .if2 .taken)
 
--- src/call.rt:213:9
 returns-3 : tie.Need-returns-3
-returns-3 c = ?
+returns-3 c b ec ed eq es = third-ground _ _ _ _ _ _ _ b ec ed eq es (c .before .before .if1 .left) (c .before .if2 .left) (c .if3 .taken)
 
--- src/call.rt:216:9
 returns-4 : tie.Need-returns-4
-returns-4 c = ?
+returns-4 c b ec ed eq es = fourth-ground _ _ _ _ _ _ _ b ec ed eq es (c .before .before .before .if1 .left) (c .before .before .if2 .left) (c .before .if3 .left) (c .if4 .taken)
 
--- src/call.rt:202:1
 returns-5 : tie.Need-returns-5
-returns-5 c = ?
+returns-5 c b ec ed eq es = no-ground _ _ _ _ _ _ _ b ec ed eq es (c .before .before .before .if1 .left) (c .before .before .if2 .left) (c .before .if3 .left) (c .if4 .left)
 
 pub unfit-spec : {M : Type 1} → statement M
 unfit-spec = tie.close (tie.spec returns returns-2 returns-3 returns-4 returns-5)
