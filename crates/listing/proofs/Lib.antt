@@ -1,4 +1,5 @@
 pub mod Offering
+pub mod Expanding
 pub mod Running
 pub mod Starting
 pub mod Refusing
