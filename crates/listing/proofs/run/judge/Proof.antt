@@ -1,107 +1,95 @@
+-- `run::judge` meets its contract: one law for each way out. Assumes nothing.
+use native.Mathlib.Omega.{arith}
 use borrow.Author.Needs.{needs}
+use Rattle.consistency.proofs.Endings.{was-consistent, was-inconsistent, was-spent}
+use Rattle.conflict.proofs.Given.{ready-again}
+use Rattle.listing.proofs.Judging.{listed-less, can-count, codes-place, costs-place, judge-most, judge-spent, judge-learn, judge-listed}
 use Rattle.listing.proofs.run.judge.Statement.{statement}
 use Rattle.listing.proofs.run.judge.Tie as tie
-use Rattle.listing.proofs.run.judge.Reads as reads
-use Rattle.listing.proofs.run.judge.Lts as lts
-use Rattle.children.proofs.values.Reads as values-reads
-use Rattle.conflict.proofs.tests.tested.Reads as tested-reads
-use Rattle.listing.proofs.run.learn.Reads as learn-reads
 
--- src/run.rt:141:9
 returns : tie.Need-returns
-returns c = ?
+returns c q prices tb t full = judge-most t _ (c .if1 .taken)
 
--- src/run.rt:143:70
 values-requires : tie.Need-values-requires
 values-requires c κs = search needs
 
--- src/run.rt:143:11
 tested-requires : tie.Need-tested-requires
 tested-requires c κs = search needs
 
--- src/run.rt:144:23
 enum-known-t : tie.Need-enum-known-t
 enum-known-t c = search needs
 
--- src/run.rt:153:30
 enum-known-t-2 : tie.Need-enum-known-t-2
 enum-known-t-2 c = search needs
 
--- src/run.rt:153:36
 learn-requires : tie.Need-learn-requires
-learn-requires c κs = ?
+learn-requires c κs =
+    let s = c .before .before .before .before .before .before .before .before .before .before .before .before .before .before .before .before .before .before .before .before .before .before .before in
+    (ready-again (s .pre .0) (c .before .before .before .before .before .before .before .before .tested .kept .1 .1 .1 .1 .1 .1 .0), can-count (s .pre .1 .1) (c .before .before .before .before .before .before .before .before .before .before .before .if1 .left), s .pre .1 .1 .turn .standing .room)
 
--- src/run.rt:154:28
 enum-known-t-3 : tie.Need-enum-known-t-3
 enum-known-t-3 c = search needs
 
--- src/run.rt:155:22
 cast-at : tie.Need-cast-at
 cast-at c = search needs
 
--- src/run.rt:156:13
 mul-codes : tie.Need-mul-codes
 mul-codes c = search needs
 
--- src/run.rt:156:13
 slice-write-codes : tie.Need-slice-write-codes
-slice-write-codes c = ?
+slice-write-codes c = codes-place (c .before .before .before .before .before .before .before .before .before .before .before .before .before .before .before .before .before .before .before .before .before .pre .1 .1)
 
--- src/run.rt:157:13
 mul-costs : tie.Need-mul-costs
 mul-costs c = search needs
 
--- src/run.rt:157:13
 slice-write-costs : tie.Need-slice-write-costs
-slice-write-costs c = ?
+slice-write-costs c = costs-place (c .before .before .before .before .before .before .before .before .before .before .before .before .before .before .before .before .before .before .before .before .before .pre .1 .1)
 
--- src/run.rt:161:25
 add-t37 : tie.Need-add-t37
-add-t37 c = ?
+add-t37 c = let s = c .before .before .before .before .before .before .before .before .before .before .before .before .before .before .before .before .before .before .before .before .before .before in omega (arith, listed-less (s .pre .1 .1), can-count (s .pre .1 .1) (c .before .before .before .before .before .before .before .before .before .before .if1 .left) .tested-less)
 
--- src/run.rt:162:25
 add-t38 : tie.Need-add-t38
 add-t38 c = search needs
 
--- src/run.rt:118:1
 same-length : tie.Need-same-length
 same-length c = search needs
 
--- src/run.rt:118:1
 returns-2 : tie.Need-returns-2
-returns-2 c = ?
+returns-2 c q prices tb t full =
+    let k = c .before .before .before .before .before in
+    let w = k .before .values .ensures (q .plant) (t .parent) (t .is) in
+    judge-spent t (k .before .before .before .if1 .left) _ (was-spent _ _ _ _ _ (k .tested .ensures (q .plant) prices tb (t .parent) w (t .is .valid)) (c .before .t .given .1) .0)
 
--- src/run.rt:118:1
 same-length-2 : tie.Need-same-length-2
 same-length-2 c = search needs
 
--- src/run.rt:118:1
 same-length-3 : tie.Need-same-length-3
 same-length-3 c = search needs
 
--- src/run.rt:118:1
 same-length-4 : tie.Need-same-length-4
 same-length-4 c = search needs
 
--- src/run.rt:118:1
 returns-3 : tie.Need-returns-3
-returns-3 c = ?
+returns-3 c q prices tb t full =
+    let k = c .before .before .before .before .before .before .before .before .before .before .before .before .before .before .before in
+    let w = k .before .values .ensures (q .plant) (t .parent) (t .is) in
+    let e = was-inconsistent _ _ _ _ _ (k .tested .ensures (q .plant) prices tb (t .parent) w (t .is .valid)) (c .before .before .before .before .before .before .before .before .before .before .before .t2 .given .1) .0 in
+    rw (judge-learn t (k .before .before .before .if1 .left) e) (c .before .before .before .before .before .before .learn .ensures q prices _ _ tb t)
 
--- src/run.rt:118:1
 same-length-5 : tie.Need-same-length-5
 same-length-5 c = search needs
 
--- src/run.rt:118:1
 same-length-6 : tie.Need-same-length-6
 same-length-6 c = search needs
 
--- src/run.rt:118:1
 same-length-7 : tie.Need-same-length-7
 same-length-7 c = search needs
 
--- src/run.rt:118:1
 returns-4 : tie.Need-returns-4
-returns-4 c = ?
+returns-4 c q prices tb t full =
+    let k = c .before .before .before .before .before .before .before .before in
+    let w = k .before .values .ensures (q .plant) (t .parent) (t .is) in
+    judge-listed t (k .before .before .before .if1 .left) full (was-consistent _ _ _ _ _ (k .tested .ensures (q .plant) prices tb (t .parent) w (t .is .valid)) (c .before .before .before .before .t3 .given .1))
 
 pub judge-spec : {M : Type 1} → statement M
 judge-spec =

@@ -1,88 +1,74 @@
+-- `run::learn` meets its contract: one law for each way out. Assumes nothing.
+use native.Mathlib.Omega.{arith}
 use borrow.Author.Needs.{needs}
+use Rattle.listing.proofs.Judging.{learn-unkept, learn-spent, learn-conflict}
 use Rattle.listing.proofs.run.learn.Statement.{statement}
 use Rattle.listing.proofs.run.learn.Tie as tie
-use Rattle.listing.proofs.run.learn.Reads as reads
-use Rattle.listing.proofs.run.learn.Lts as lts
-use Rattle.children.proofs.values.Reads as values-reads
-use Rattle.conflict.proofs.reduce.reduce.Reads as reduce-reads
-use Rattle.queue.proofs.sieve.Reads as sieve-reads
-use Rattle.store.proofs.append.Reads as append-reads
 
--- src/run.rt:85:21
 add-t22 : tie.Need-add-t22
 add-t22 c = search needs
 
--- src/run.rt:87:21
 add-t23 : tie.Need-add-t23
 add-t23 c = search needs
 
--- src/run.rt:81:9
 returns : tie.Need-returns
-returns c = ?
+returns c q prices codes costs tb t = learn-unkept t _ (c .before .before .if1 .taken)
 
--- src/run.rt:91:70
 values-requires : tie.Need-values-requires
 values-requires c κs = search needs
 
--- src/run.rt:91:11
 reduce-requires : tie.Need-reduce-requires
 reduce-requires c κs = search needs
 
--- src/run.rt:92:24
 enum-known-t : tie.Need-enum-known-t
 enum-known-t c = search needs
 
--- src/run.rt:96:21
 add-t31 : tie.Need-add-t31
 add-t31 c = search needs
 
--- src/run.rt:101:27
 enum-known-mask : tie.Need-enum-known-mask
 enum-known-mask c = search needs
 
--- src/run.rt:102:13
 append-requires : tie.Need-append-requires
 append-requires c κs = search needs
 
--- src/run.rt:103:17
 sieve-requires : tie.Need-sieve-requires
 sieve-requires c κs = search needs
 
--- src/run.rt:106:25
 add-t38 : tie.Need-add-t38
-add-t38 c = ?
+add-t38 c = omega (arith, c .before .before .before .before .before .before .before .before .before .before .before .before .before .before .before .before .before .if1 .left, c .before .before .before .before .before .before .before .before .before .before .before .before .before .before .before .before .before .before .before .before .before .before .before .before .before .before .before .good .1 .1 .1 .1 .1 .1 .1 .1 .0 .0)
 
--- src/run.rt:108:25
 add-t39 : tie.Need-add-t39
-add-t39 c = ?
+add-t39 c = omega (arith, c .before .before .before .before .before .before .before .before .before .before .before .before .before .before .before .before .before .before .before .before .before .before .before .before .before .before .before .before .pre)
 
--- src/run.rt:109:26
 add-t40 : tie.Need-add-t40
-add-t40 c = ?
+add-t40 c = omega (arith, c .before .before .before .before .before .before .before .before .before .before .before .before .before .before .before .before .before .before .before .before .before .before .before .before .before .before .before .before .before .pre)
 
--- src/run.rt:59:1
 same-length : tie.Need-same-length
 same-length c = search needs
 
--- src/run.rt:59:1
 returns-2 : tie.Need-returns-2
-returns-2 c = ?
+returns-2 c q prices codes costs tb t =
+    let k = c .before .before .before .before .before .before in
+    let w = k .before .values .ensures (q .plant) (t .parent) (t .is) in
+    learn-spent t _ (k .before .before .before .if1 .left) _ (k .reduce .ensures (q .plant) prices tb (t .parent) w (t .is .valid)) _ (c .before .before .t .given .1)
 
--- src/run.rt:59:1
 same-length-2 : tie.Need-same-length-2
 same-length-2 c = search needs
 
--- src/run.rt:59:1
 same-length-3 : tie.Need-same-length-3
 same-length-3 c = search needs
 
--- src/run.rt:59:1
 same-length-4 : tie.Need-same-length-4
 same-length-4 c = search needs
 
--- src/run.rt:59:1
 returns-3 : tie.Need-returns-3
-returns-3 c = ?
+returns-3 c q prices codes costs tb t =
+    let k = c .before .before .before .before .before .before .before .before .before .before .before .before .before .before .before .before in
+    let s = c .before .before .before .before .before .sieve in
+    let w = k .before .values .ensures (q .plant) (t .parent) (t .is) in
+    learn-conflict t _ (k .before .before .before .if1 .left) _ (k .reduce .ensures (q .plant) prices tb (t .parent) w (t .is .valid)) (c .before .before .before .before .before .before .before .before .before .before .before .before .mask .given .1)
+    _ _ _ (s .kept .0) (c .before .before .before .before .before .before .before .before .before .append .ensures .0) (s .ensures)
 
 pub learn-spec : {M : Type 1} → statement M
 learn-spec =
