@@ -5,3 +5,4 @@ pub mod Expanding
 pub mod Running
 pub mod Starting
 pub mod Refusing
+pub mod Answering

@@ -1,45 +1,39 @@
+-- `call::write` meets its contract: six stores fill the first six places. Assumes nothing.
+use native.Mathlib.Omega.{arith}
+use lib.ListN.{set, length-set}
+use Rattle.listing.proofs.Answering.{six-written}
 use borrow.Author.Needs.{needs}
 use Rattle.listing.proofs.call.write.Statement.{statement}
 use Rattle.listing.proofs.call.write.Tie as tie
-use Rattle.listing.proofs.call.write.Reads as reads
-use Rattle.listing.proofs.call.write.Lts as lts
-use Rattle.listing.proofs.call.number.Reads as number-reads
 
--- src/call.rt:288:17
 number-requires : tie.Need-number-requires
 number-requires c κs = search needs
 
--- src/call.rt:288:5
 slice-write-result : tie.Need-slice-write-result
 slice-write-result c = search needs
 
--- src/call.rt:289:5
 slice-write-result-2 : tie.Need-slice-write-result-2
-slice-write-result-2 c = ?
+slice-write-result-2 c = let s = c .before .before in omega (arith, s .pre, length-set (s .args .result .now) 0 (c .number .result))
 
--- src/call.rt:290:5
 slice-write-result-3 : tie.Need-slice-write-result-3
-slice-write-result-3 c = ?
+slice-write-result-3 c = let s = c .before .before in omega (arith, s .pre, length-set (s .args .result .now) 0 (c .number .result), length-set (set (s .args .result .now) 0 (c .number .result)) 1 (s .args .c .listed))
 
--- src/call.rt:291:5
 slice-write-result-4 : tie.Need-slice-write-result-4
-slice-write-result-4 c = ?
+slice-write-result-4 c = let s = c .before .before in omega (arith, s .pre, length-set (s .args .result .now) 0 (c .number .result), length-set (set (s .args .result .now) 0 (c .number .result)) 1 (s .args .c .listed), length-set (set (set (s .args .result .now) 0 (c .number .result)) 1 (s .args .c .listed)) 2 (s .args .c .tested))
 
--- src/call.rt:292:5
 slice-write-result-5 : tie.Need-slice-write-result-5
-slice-write-result-5 c = ?
+slice-write-result-5 c = let s = c .before .before in omega (arith, s .pre, length-set (s .args .result .now) 0 (c .number .result), length-set (set (s .args .result .now) 0 (c .number .result)) 1 (s .args .c .listed), length-set (set (set (s .args .result .now) 0 (c .number .result)) 1 (s .args .c .listed)) 2 (s .args .c .tested), length-set (set (set (set (s .args .result .now) 0 (c .number .result)) 1 (s .args .c .listed)) 2 (s .args .c .tested)) 3 (s .args .c .learned))
 
--- src/call.rt:293:5
 slice-write-result-6 : tie.Need-slice-write-result-6
 slice-write-result-6 c = search needs
 
--- src/call.rt:284:1
 same-length : tie.Need-same-length
 same-length c = search needs
 
--- src/call.rt:284:1
 returns : tie.Need-returns
-returns c = ?
+returns c =
+    let s = c .before .before in
+    rw (← c .number .ensures) (six-written _ _ _ _ _ _ (s .args .result .now) (s .pre))
 
 pub write-spec : {M : Type 1} → statement M
 write-spec =
