@@ -27,7 +27,7 @@ use Rattle.listing.specs.declared.call.Counts.{Counts as Tallies}
 use Rattle.listing.specs.declared.run.Ending.{Ending as Ended}
 use Rattle.listing.proofs.Refusing.{fit, short-given}
 use Rattle.listing.specs.Run.{Question, FinishedAs, endingOf}
-use Rattle.listing.specs.Calls.{question, buffers, Room, Lists, Finishes, countsOf, answerOf, CalledAs, Promises, ExportedAs, ExportPromises}
+use Rattle.listing.specs.Calls.{question, buffers, Room, Lists, Finishes, countsOf, answerOf, CalledAs, shown, Promises, exported, ExportPromises}
 
 -- ---- over decoded tables
 
@@ -81,14 +81,18 @@ module _ (sheet : List ℕ) (k : ℕ) (b : Buffers) (held limit : ℕ) (short : 
     sheet-called e h = rw (listingWith, none-given, e) h
 
 -- an answer and buffers that are those of the model's call keep its promise
-pub called-promised : (sheet : List ℕ) (k : ℕ) (b : Buffers) (held limit : ℕ) (short : Bool) {r : Answers} {after : Buffers} → CalledAs r after (listingWith sheet k b held limit short) → Promises sheet k b limit r after
-called-promised sheet k b held limit short {r} {after} h =
-    (listingWith sheet k b held limit short .struck, rw (h .answer-is, h .after-is) (promised sheet k b held limit short))
+kept : (sheet : List ℕ) (k : ℕ) (b : Buffers) (held limit : ℕ) (short : Bool) {r : Answers} {after : Buffers} → CalledAs r after (listingWith sheet k b held limit short)
+    → PromisedBy sheet k b limit (answerOf r) after (listingWith sheet k b held limit short .struck)
+kept sheet k b held limit short h = rw (h .answer-is, h .after-is) (promised sheet k b held limit short)
 
--- the call is the one with no result words
-pub called-call : (sheet : List ℕ) (k : ℕ) (b : Buffers) (held limit : ℕ) {r : Answers} {after : Buffers} → CalledAs r after (listingWith sheet k b held limit false) → CalledAs r after (listingCall sheet k b held limit)
-unfolding listingCall
-called-call sheet k b held limit h = h
+module _ (sheet : List ℕ) (k : ℕ) (b : Buffers) (held limit : ℕ) {r : Answers} {after : Buffers} (h : CalledAs r after (listingWith sheet k b held limit false)) where
+  pub called-shown : shown (listingCall sheet k b held limit) ≡ (answerOf r, after)
+  unfolding listingCall
+  called-shown = rw (h .answer-is, h .after-is)
+
+  pub called-promised : Promises sheet k b held limit r after
+  unfolding listingCall
+  called-promised = kept sheet k b held limit false h
 
 -- ---- the export
 
@@ -119,17 +123,19 @@ module _ (sheet : List ℕ) (k : ℕ) (b : Buffers) (held limit : ℕ) (result :
           absurd (omega arith)
 
   -- what the export returns and leaves is what the model's export does, and it keeps the promise
-  pub exported : {returned : ℕ} {words : List ℕ} → ExportedAs returned after words (exportedOf result after (answerOf r)) → ExportedAs returned after words (exportCall sheet k b held limit result)
+  pub exported-as : {returned : ℕ} {words : List ℕ} → exportedOf result after (answerOf r) ≡ exported returned after words → exportCall sheet k b held limit result ≡ exported returned after words
   unfolding exportCall
-  exported e = rw (← h .answer-is, ← h .after-is) e
+  exported-as e = rw (← h .answer-is, ← h .after-is) e
 
-  pub export-promised : {returned : ℕ} {words : List ℕ} → ExportedAs returned after words (exportedOf result after (answerOf r)) → ExportPromises sheet k b limit result returned after words
-  export-promised e = let p = called-promised sheet k b held limit (ltb (length result) 6) h in (answerOf r, p .0, e, p .1)
+  pub export-promised : {returned : ℕ} {words : List ℕ} → exportedOf result after (answerOf r) ≡ exported returned after words → ExportPromises sheet k b held limit result returned after words
+  export-promised e = (answerOf r, e, kept sheet k b held limit (ltb (length result) 6) h)
 
-pub refused-written : (result : List ℕ) (after : Buffers) {x : Refusal} {r : Answers} {n : ℕ} → r ≡ Answers.Refused x → n ≡ refusalNumber (refusalOf x) → ExportedAs n after result (exportedOf result after (answerOf r))
+-- what the export makes of a refusal, and of a run
+pub refused-written : (result : List ℕ) (after : Buffers) {x : Refusal} {r : Answers} {n : ℕ} → r ≡ Answers.Refused x → n ≡ refusalNumber (refusalOf x) → exportedOf result after (answerOf r) ≡ exported n after result
 unfolding exportedOf
-refused-written result after e f = rw e (record { returned-is = f; after-is = refl; result-is = refl })
+refused-written result after e f = rw (e, f)
 
-pub ran-written : (result words : List ℕ) (after : Buffers) {e : Ended} {c : Tallies} {r : Answers} → r ≡ Answers.Ran e c → words ≡ filled (resultWords (endingOf e) (countsOf c)) result → ExportedAs 0 after words (exportedOf result after (answerOf r))
+pub ran-written : (result words : List ℕ) (after : Buffers) {e : Ended} {c : Tallies} {r : Answers} → r ≡ Answers.Ran e c → words ≡ filled (resultWords (endingOf e) (countsOf c)) result
+    → exportedOf result after (answerOf r) ≡ exported 0 after words
 unfolding exportedOf
-ran-written result words after e f = rw e (record { returned-is = refl; after-is = refl; result-is = f })
+ran-written result words after e f = rw (e, f)

@@ -1,14 +1,14 @@
 -- What the listing call answers and leaves, as the model's call. Assumes nothing: these are definitions.
 use mathlib.Core.Path.{_≡_}
-use mathlib.Core.Bool.{Bool}
 use mathlib.Core.List.{List}
 use Prim.Native.Nat.{ℕ, _*_, _≤_}
+use lib.Dec.{ltb}
 use lib.ListN.{length, replicate}
 use Rattle.model.specs.Lists.{All, filled}
 use Rattle.model.specs.Sheet.{Plant}
 use Rattle.model.specs.Assignment.{Assignment}
 use Rattle.model.specs.Conflict.{Conflict}
-use Rattle.model.specs.Calls.{refused, answered, Buffers, Counts, ran, Answer, Called, entryWords, Exported, exportedOf}
+use Rattle.model.specs.Calls.{refused, answered, Buffers, Counts, ran, Answer, Called, entryWords, listingWith, listingCall, Exported, exportedOf}
 use Rattle.theory.specs.Demand3.{PromisedBy}
 use Rattle.store.specs.Store.{Keeps}
 use Rattle.conflict.specs.Calls.{refusalOf}
@@ -65,19 +65,20 @@ pub record CalledAs (r : Answers) (after : Buffers) (c : Called) : Type 0 where
   pub answer-is : answerOf r ≡ c .answer
   pub after-is : after ≡ c .after
 
--- what is promised of a listing call, of this very answer and these buffers
-abbrev pub Promises : (sheet : List ℕ) (k : ℕ) (before : Buffers) (limit : ℕ) → Answers → Buffers → Type 0
-Promises sheet k before limit r after = (struck : Bool) × PromisedBy sheet k before limit (answerOf r) after struck
+-- what a call shows of itself: its answer and every lent word afterwards
+abbrev pub shown : Called → Answer × Buffers
+shown c = (c .answer, c .after)
+
+-- what is promised of a listing call, said of this very answer and these buffers
+abbrev pub Promises : (sheet : List ℕ) (k : ℕ) (before : Buffers) (held limit : ℕ) → Answers → Buffers → Type 0
+Promises sheet k before held limit r after = PromisedBy sheet k before limit (answerOf r) after (listingCall sheet k before held limit .struck)
 
 -- ---- the export
 
--- what is returned and every lent word are those of the model's export
-pub record ExportedAs (returned : ℕ) (after : Buffers) (result : List ℕ) (e : Exported) : Type 0 where
-  pub returned-is : returned ≡ e .returned
-  pub after-is : after ≡ e .after
-  pub result-is : result ≡ e .result
+abbrev pub exported : ℕ → Buffers → List ℕ → Exported
+exported returned after result = record { returned = returned; after = after; result = result }
 
--- what is promised of the export: its number and result words are those of an answer that keeps the call's promise
-abbrev pub ExportPromises : (sheet : List ℕ) (k : ℕ) (before : Buffers) (limit : ℕ) (result : List ℕ) → ℕ → Buffers → List ℕ → Type 0
-ExportPromises sheet k before limit result returned after words =
-    (a : Answer) × (struck : Bool) × ExportedAs returned after words (exportedOf result after a) × PromisedBy sheet k before limit a after struck
+-- what is promised of the export: what it returns and leaves tells an answer that keeps the call's promise
+abbrev pub ExportPromises : (sheet : List ℕ) (k : ℕ) (before : Buffers) (held limit : ℕ) (result : List ℕ) → ℕ → Buffers → List ℕ → Type 0
+ExportPromises sheet k before held limit result returned after words =
+    (a : Answer) × (exportedOf result after a ≡ exported returned after words) × PromisedBy sheet k before limit a after (listingWith sheet k before held limit (ltb (length result) 6) .struck)

@@ -22,7 +22,7 @@ ghost use Rattle.theory.specs.Tables.{Tabled};
 ghost use Rattle.children.specs.Children.{NodeIs};
 ghost use Rattle.conflict.specs.Calls.{groundNumber};
 ghost use Rattle.listing.specs.Run.{endingOf, FinishedAs};
-ghost use Rattle.listing.specs.Calls.{question, buffers, Room, Lists, Survivors, Finishes, countsOf, CalledAs, Promises, ExportedAs, ExportPromises};
+ghost use Rattle.listing.specs.Calls.{question, buffers, Room, Lists, Survivors, Finishes, countsOf, CalledAs, answerOf, shown, Promises, exported, ExportPromises};
 
 // The counts of a run.
 pub struct Counts {
@@ -262,9 +262,10 @@ pub fn list(
     held: usize,
     limit: u32,
 ) -> Answer
-    ensures equation { λ r. ⌜ CalledAs r (buffers (now (codes .exit)) (now (costs .exit)) (now (queue .exit)) (now (store .exit)))
-        (listingCall (now (sheet .entry)) k (buffers (now (codes .entry)) (now (costs .entry)) (now (queue .entry)) (now (store .entry))) held limit) ⌝ }
-    ensures promise { λ r. ⌜ Promises (now (sheet .entry)) k (buffers (now (codes .entry)) (now (costs .entry)) (now (queue .entry)) (now (store .entry))) limit r (buffers (now (codes .exit)) (now (costs .exit)) (now (queue .exit)) (now (store .exit))) ⌝ }
+    ensures equation { λ r. ⌜ shown (listingCall (now (sheet .entry)) k (buffers (now (codes .entry)) (now (costs .entry)) (now (queue .entry)) (now (store .entry))) held limit)
+        ≡ (answerOf r, buffers (now (codes .exit)) (now (costs .exit)) (now (queue .exit)) (now (store .exit))) ⌝ }
+    ensures promise { λ r. ⌜ Promises (now (sheet .entry)) k (buffers (now (codes .entry)) (now (costs .entry)) (now (queue .entry)) (now (store .entry))) held limit r
+        (buffers (now (codes .exit)) (now (costs .exit)) (now (queue .exit)) (now (store .exit))) ⌝ }
 {
     list_with(sheet, k, codes, costs, queue, store, held, limit, false)
 }
@@ -307,9 +308,9 @@ pub extern "C" fn leading_list(
     held: usize,
     limit: u32,
 ) -> u32
-    ensures equation { λ r. ⌜ ExportedAs r (buffers (now (codes .exit)) (now (costs .exit)) (now (queue .exit)) (now (store .exit))) (now (result .exit))
-        (exportCall (now (sheet .entry)) k (buffers (now (codes .entry)) (now (costs .entry)) (now (queue .entry)) (now (store .entry))) held limit (now (result .entry))) ⌝ }
-    ensures promise { λ r. ⌜ ExportPromises (now (sheet .entry)) k (buffers (now (codes .entry)) (now (costs .entry)) (now (queue .entry)) (now (store .entry))) limit (now (result .entry)) r
+    ensures equation { λ r. ⌜ exportCall (now (sheet .entry)) k (buffers (now (codes .entry)) (now (costs .entry)) (now (queue .entry)) (now (store .entry))) held limit (now (result .entry))
+        ≡ exported r (buffers (now (codes .exit)) (now (costs .exit)) (now (queue .exit)) (now (store .exit))) (now (result .exit)) ⌝ }
+    ensures promise { λ r. ⌜ ExportPromises (now (sheet .entry)) k (buffers (now (codes .entry)) (now (costs .entry)) (now (queue .entry)) (now (store .entry))) held limit (now (result .entry)) r
         (buffers (now (codes .exit)) (now (costs .exit)) (now (queue .exit)) (now (store .exit))) (now (result .exit)) ⌝ }
 {
     match list_with(sheet, k, codes, costs, queue, store, held, limit, result.len() < 6) {

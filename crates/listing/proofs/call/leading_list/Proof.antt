@@ -1,7 +1,6 @@
 -- `call::leading_list` meets its contract: the equation with the model's export, and what is promised of every call. Assumes nothing.
-use mathlib.Core.Path.{refl}
 use Rattle.listing.specs.Calls.{buffers}
-use Rattle.listing.proofs.Answering.{ran-long, exported, export-promised, refused-written, ran-written}
+use Rattle.listing.proofs.Answering.{ran-long, exported-as, export-promised, refused-written, ran-written}
 use borrow.Author.Needs.{needs}
 use Rattle.listing.proofs.call.leading_list.Statement.{statement}
 use Rattle.listing.proofs.call.leading_list.Tie as tie
@@ -40,7 +39,7 @@ returns c =
     let s = c .before .before .before .before .before .before .before .before .before .before .before .before .before .before .before .before .before .before .before .before .before .before .before in
     let h = c .before .before .before .before .before .before .before .before .before .before .before .before .list-with .ensures in
     let e = refused-written (s .args .result .now) _ (c .before .before .r .given .1) (c .number .ensures) in
-    (exported (s .args .sheet .now) (s .args .k) (buffers (s .args .codes .now) (s .args .costs .now) (s .args .queue .now) (s .args .store .now)) (s .args .held) (s .args .limit) (s .args .result .now) h e, export-promised (s .args .sheet .now) (s .args .k) (buffers (s .args .codes .now) (s .args .costs .now) (s .args .queue .now) (s .args .store .now)) (s .args .held) (s .args .limit) (s .args .result .now) h e)
+    (exported-as (s .args .sheet .now) (s .args .k) (buffers (s .args .codes .now) (s .args .costs .now) (s .args .queue .now) (s .args .store .now)) (s .args .held) (s .args .limit) (s .args .result .now) h e, export-promised (s .args .sheet .now) (s .args .k) (buffers (s .args .codes .now) (s .args .costs .now) (s .args .queue .now) (s .args .store .now)) (s .args .held) (s .args .limit) (s .args .result .now) h e)
 
 same-length-5 : tie.Need-same-length-5
 same-length-5 c = search needs
@@ -62,7 +61,7 @@ returns-2 c =
     let s = c .before .before .before .before .before .before .before .before .before .before .before .before .before .before .before .before .before .before .before .before .before .before .before .before .before .before in
     let h = c .before .before .before .before .before .before .before .before .before .before .before .before .before .before .before .list-with .ensures in
     let e = ran-written (s .args .result .now) _ _ (c .before .before .before .before .before .e .given .1) (c .before .before .write .ensures) in
-    (exported (s .args .sheet .now) (s .args .k) (buffers (s .args .codes .now) (s .args .costs .now) (s .args .queue .now) (s .args .store .now)) (s .args .held) (s .args .limit) (s .args .result .now) h e, export-promised (s .args .sheet .now) (s .args .k) (buffers (s .args .codes .now) (s .args .costs .now) (s .args .queue .now) (s .args .store .now)) (s .args .held) (s .args .limit) (s .args .result .now) h e)
+    (exported-as (s .args .sheet .now) (s .args .k) (buffers (s .args .codes .now) (s .args .costs .now) (s .args .queue .now) (s .args .store .now)) (s .args .held) (s .args .limit) (s .args .result .now) h e, export-promised (s .args .sheet .now) (s .args .k) (buffers (s .args .codes .now) (s .args .costs .now) (s .args .queue .now) (s .args .store .now)) (s .args .held) (s .args .limit) (s .args .result .now) h e)
 
 pub leading-list-spec : {M : Type 1} → statement M
 leading-list-spec =

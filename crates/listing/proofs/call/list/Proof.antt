@@ -1,8 +1,6 @@
 -- `call::list` meets its contract: the equation with the model's call, and what is promised of every call. Assumes nothing.
-use mathlib.Core.Bool.{false}
-use Rattle.model.specs.Calls.{listingCall}
 use Rattle.listing.specs.Calls.{buffers}
-use Rattle.listing.proofs.Answering.{called-promised, called-call}
+use Rattle.listing.proofs.Answering.{called-shown, called-promised}
 use borrow.Author.Needs.{needs}
 use Rattle.listing.proofs.call.list.Statement.{statement}
 use Rattle.listing.proofs.call.list.Tie as tie
@@ -26,7 +24,7 @@ returns : tie.Need-returns
 returns c =
     let s = c .before .before .before .before .before .before .before .before .before .before .before .before .before .before .before .before .before .before in
     let h = c .before .before .before .before .before .before .before .before .list-with .ensures in
-    (called-call (s .args .sheet .now) (s .args .k) (buffers (s .args .codes .now) (s .args .costs .now) (s .args .queue .now) (s .args .store .now)) (s .args .held) (s .args .limit) h, called-promised (s .args .sheet .now) (s .args .k) (buffers (s .args .codes .now) (s .args .costs .now) (s .args .queue .now) (s .args .store .now)) (s .args .held) (s .args .limit) false h)
+    (called-shown (s .args .sheet .now) (s .args .k) (buffers (s .args .codes .now) (s .args .costs .now) (s .args .queue .now) (s .args .store .now)) (s .args .held) (s .args .limit) h, called-promised (s .args .sheet .now) (s .args .k) (buffers (s .args .codes .now) (s .args .costs .now) (s .args .queue .now) (s .args .store .now)) (s .args .held) (s .args .limit) h)
 
 pub list-spec : {M : Type 1} → statement M
 list-spec =
