@@ -217,7 +217,7 @@ pub fn reduce_call(sheet: &[u8], mask: u64, values: u64, limit: u32) -> ReduceAn
 }
 
 // The number of a refusal.
-fn number(r: Refusal) -> u32
+pub fn number(r: Refusal) -> u32
     ensures { λ n. ⌜ n ≡ refusalNumber (refusalOf r) ⌝ }
 {
     match r {

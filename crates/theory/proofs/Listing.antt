@@ -23,17 +23,17 @@ use Rattle.theory.proofs.Moves.{searching-start}
 use Rattle.theory.proofs.Run.{spent-done, run-done}
 
 -- what step 1 leaves: survivors that are conflicts, and trials within the limit
-abbrev Survived : Plant → ℕ → Checked → Type 0
+abbrev pub Survived : Plant → ℕ → Checked → Type 0
 Survived p limit (checked survivors t) = All (Conflict p) survivors × (t ≤ limit)
 Survived p limit (brokenOff survivors t) = All (Conflict p) survivors × (t ≤ limit)
 
 module _ (p : Plant) (present : VariablesPresent p) (limit : ℕ) where
   -- a well formed entry holds a valid assignment
-  offer-valid : (o : Offer) → wellFormed (decisionSizes p) (o .mask) (o .values) ≡ true → Valid (decisionSizes p) (assignmentOf (length (p .costs)) (o .mask) (o .values))
+  pub offer-valid : (o : Offer) → wellFormed (decisionSizes p) (o .mask) (o .values) ≡ true → Valid (decisionSizes p) (assignmentOf (length (p .costs)) (o .mask) (o .values))
   offer-valid o e = rw (← length-map (p .costs) length) (well-formed-valid (decisionSizes p) (o .mask) (o .values) e)
 
   -- each survivor was tested, so it is a conflict
-  offers-survive : (survivors : List Assignment) (offers : List Offer) (used : ℕ) → All (Conflict p) survivors → used ≤ limit → Survived p limit (checkOffers p limit survivors offers used)
+  pub offers-survive : (survivors : List Assignment) (offers : List Offer) (used : ℕ) → All (Conflict p) survivors → used ≤ limit → Survived p limit (checkOffers p limit survivors offers used)
   unfolding checkOffers
   offers-survive survivors [] used a h = (a, h)
   offers-survive survivors (o ∷ offers) used a h = go (wellFormed (decisionSizes p) (o .mask) (o .values)) refl (test p limit c used) refl (λ s. offers-survive s offers)
@@ -53,7 +53,7 @@ module _ (p : Plant) (present : VariablesPresent p) (limit : ℕ) where
 
 module _ (p : Plant) (o : Order) (law : Lawful (decisionSizes p) o) (present : VariablesPresent p) (sized : All (λ m. 1 ≤ m) (decisionSizes p)) (k limit : ℕ) where
   -- at the start of step 3 nothing has been listed, tested or learned
-  start-going : (survivors : List Assignment) (used : ℕ) → All (Conflict p) survivors → used ≤ limit → Going p o k limit survivors (start (decisionSizes p) survivors used)
+  pub start-going : (survivors : List Assignment) (used : ℕ) → All (Conflict p) survivors → used ≤ limit → Going p o k limit survivors (start (decisionSizes p) survivors used)
   unfolding start
   start-going survivors used a h = record {
     kept = record {

@@ -200,7 +200,7 @@ module _ (p : Plant) (o : Order) (law : Lawful (decisionSizes p) o) (present : V
 
   module _ (sized : All (λ m. 1 ≤ m) (decisionSizes p)) where
     -- steps 3 to 7
-    step-stepped : (s : State) → Going p o k limit survivors s → Stepped p o k limit survivors entries s (step p o k entries places limit s)
+    pub step-stepped : (s : State) → Going p o k limit survivors s → Stepped p o k limit survivors entries s (step p o k entries places limit s)
     unfolding step remove
     step-stepped s g = go (ltb (length (s .listed)) k) refl (s .queue) refl
       where

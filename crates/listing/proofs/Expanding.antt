@@ -1,0 +1,261 @@
+-- What steps 3 to 6 make of the words is what they make of the state: a node is removed, and its children are put into the queue. Assumes nothing.
+use mathlib.Core.Path.{_≡_, refl, sym, ap, _∙_}
+use mathlib.Core.Bool.{Bool, true, false}
+use mathlib.Core.Option.{none, some}
+use mathlib.Core.List.{List, [], _∷_}
+use Prim.Native.Nat.{ℕ, _+_, _-_, _*_, _/_, _≤_, _<_}
+use native.Mathlib.Omega.{arith}
+use lib.Dec.{ltb}
+use lib.ListN.{length, take, length-map}
+use borrow.Author.Tests.{ltb-false, lt-ltb, le-ltb}
+use Rattle.model.specs.Lists.{All}
+use Rattle.model.specs.Sheet.{Plant, decisionSizes, edition1}
+use Rattle.model.specs.Assignment.{Assignment, Valid, isFull}
+use Rattle.model.specs.Conflict.{Conflict, resolves}
+use Rattle.model.specs.Order.{Order, orderOf}
+use Rattle.model.specs.Listing.{State, firstUnresolved, resolving, branching, leaveOff, putChildren, judge, expand, remove, step}
+use Rattle.theory.specs.Plant.{Accepted, Sized}
+use Rattle.theory.specs.Words.{Words, Wide, wideOf}
+use Rattle.theory.specs.Nodes.{Ordered}
+use Rattle.theory.specs.Tables.{Tabled}
+use Rattle.theory.specs.Run.{Searching}
+use Rattle.theory.proofs.Agreement.{valid-length}
+use Rattle.theory.proofs.Moves.{stored-conflicts}
+use Rattle.theory.proofs.Tables.{tabled-count, tabled-few, tabled-decisions, tabled-sized}
+use Rattle.queue.specs.Order.{entryOf, Keyed}
+use Rattle.queue.specs.Queue.{Holds}
+use Rattle.queue.proofs.OrderLaws.{cost-keyed}
+use Rattle.store.specs.Store.{Keeps, Tells}
+use Rattle.store.specs.declared.Unresolved.{Unresolved}
+use Rattle.store.proofs.Callers.{keeps-room}
+use Rattle.children.specs.declared.Node.{Node}
+use Rattle.children.specs.declared.Put.{Put}
+use Rattle.children.specs.Children.{NodeIs, Step, PutOf, Puts}
+use Rattle.conflict.specs.Given.{Ready}
+use Rattle.conflict.proofs.Given.{tabled-ready}
+use Rattle.listing.specs.declared.run.Progress.{Progress}
+use Rattle.listing.specs.declared.run.Ending.{Ending}
+use Rattle.listing.specs.declared.run.Next.{Next as After}
+use Rattle.listing.specs.Run.{Question, Removed, Expands, Steps, NextIs, PutNext}
+
+-- ---- steps 4 to 7 with a node removed
+
+-- the first unresolved conflict is one of the store's
+unresolved : (p : Plant) (n c : Assignment) (store : List Assignment) → All (Conflict p) store → firstUnresolved store n ≡ some c → Conflict p c
+unresolved p n c [] a e = let z : _≡_ {A = ℕ} 0 1 = cc in absurd (omega arith)
+unresolved p n c (d ∷ store) a e = go (resolves n d) refl (unresolved p n c store (a .1))
+  where
+    go : (b : Bool) → resolves n d ≡ b → (firstUnresolved store n ≡ some c → Conflict p c) → Conflict p c
+    go true f ih = ih (rw (firstUnresolved, f) at e)
+    go false f ih = let h : some d ≡ some c = rw (firstUnresolved, f) at e in let same : d ≡ c = cc in rw same at (a .0)
+
+module _ {q : Question} {limit : ℕ} {queue store codes costs : List ℕ} {g : Progress} {node : Node} (t : Removed q limit queue store codes costs g node) where
+  -- what the step's words stand for
+  abbrev pub removed-step : Step node queue (g .queued) store (g .stored)
+  removed-step = record {
+    plant = q .plant;
+    parent = t .parent;
+    conflicts = t .state .store;
+    rest = t .rest;
+    is = t .is;
+    keeps = t .turn .standing .written .keeps;
+    holds = t .turn .standing .holds;
+    room = t .turn .standing .room;
+  }
+
+  -- the store's room
+  pub removed-room : 2 * g .stored ≤ length store
+  removed-room = keeps-room (t .turn .standing .written .keeps)
+
+  -- a node has a place for each decision variable
+  parent-length : length (t .parent) ≡ length (q .plant .costs)
+  parent-length = valid-length (decisionSizes (q .plant)) (t .parent) (t .is .valid) ∙ length-map (q .plant .costs) length
+
+  -- the store's answer for the node's words is the model's for the node
+  module _ {wide values : ℕ} (r : Unresolved) (e : wide ≡ wideOf (node .mask)) (words : (p : Plant) (n : Assignment) → NodeIs p n node → Words n (node .mask) values)
+      (answer : (d : ℕ) (conflicts : List Assignment) (n : Assignment) → Keeps d store (g .stored) conflicts → Wide n wide values → length n ≡ d → Tells r (firstUnresolved conflicts n)) where
+    told : Tells r (firstUnresolved (t .state .store) (t .parent))
+    told = answer (length (q .plant .costs)) (t .state .store) (t .parent) (t .turn .standing .written .keeps)
+        (record { mask = node .mask; words = words (q .plant) (t .parent) (t .is); wide-is = e }) parent-length
+
+    -- that conflict, by its words
+    pub found-one : {mask others : ℕ} → r ≡ Unresolved.At mask others → (c : Assignment) × (firstUnresolved (t .state .store) (t .parent) ≡ some c) × Words c mask others
+    found-one f = rw f at told
+
+    -- or none
+    pub found-none : r ≡ Unresolved.Nothing → firstUnresolved (t .state .store) (t .parent) ≡ none
+    found-none f = rw f at told
+
+  -- whether the node's words are those of a full assignment
+  pub removed-full : {d values : ℕ} {sizes prices counts lits : List ℕ} {r b : Bool} → Tabled (q .plant) d sizes prices counts lits
+      → ((p : Plant) (n : Assignment) → NodeIs p n node → Words n (node .mask) values)
+      → ((a : Assignment) (others : ℕ) → Words a (node .mask) others → length a ≡ d → r ≡ isFull a) → r ≡ b → isFull (t .parent) ≡ b
+  removed-full {values = values} tabled words answer e = sym (answer (t .parent) values (words (q .plant) (t .parent) (t .is)) (parent-length ∙ tabled-count tabled)) ∙ e
+
+  -- a conflict that is found in the store is valid
+  pub removed-valid : (c : Assignment) → firstUnresolved (t .state .store) (t .parent) ≡ some c → Valid (decisionSizes (q .plant)) c
+  removed-valid c e = unresolved (q .plant) (t .parent) c (t .state .store) (stored-conflicts (q .plant) (t .turn .going .kept .store)) e .valid
+
+  -- ---- the children have been put into the queue, or are too many
+
+  module _ (after : List ℕ) (same : length after ≡ length queue) where
+    -- step 6
+    put-is : (children : List Assignment) (r : Put) (n : After) → Puts removed-step children after r → PutNext g r n
+        → NextIs q after store codes costs n (putChildren (q .plant) (orderOf (q .plant)) (q .wanted) (length queue / 2) (length store / 2) limit (t .state) (t .rest) children)
+    unfolding PutOf putChildren
+    put-is children Put.Full n h e = rw (e, putChildren, h) (refl, t .turn .standing .written)
+    put-is children (Put.Entries m) n h e =
+        let others = leaveOff (t .state .store) children in
+        let w = t .turn .standing .written in
+        rw (e, putChildren, h .0) (record {
+          holds = h .2;
+          room = omega (arith, h .1, ltb-false (length queue / 2) (length (t .rest) + length others) (h .0));
+          written = record {
+            keeps = w .keeps;
+            codes-are = w .codes-are;
+            costs-are = w .costs-are;
+            listed-is = w .listed-is;
+            tested-is = w .tested-is;
+            learned-is = w .learned-is;
+            unkept-is = w .unkept-is;
+            trials-is = w .trials-is;
+          };
+        })
+
+    -- step 4
+    pub resolved-is : (c : Assignment) (r : Put) (n : After) → firstUnresolved (t .state .store) (t .parent) ≡ some c
+        → Puts removed-step (resolving (decisionSizes (q .plant)) (t .parent) c) after r → PutNext g r n
+        → NextIs q after store codes costs n (expand (q .plant) (orderOf (q .plant)) (q .wanted) (length queue / 2) (length store / 2) limit (t .state) (t .rest) (t .parent))
+    unfolding expand
+    resolved-is c r n f h e = rw (expand, f) (put-is (resolving (decisionSizes (q .plant)) (t .parent) c) r n h e)
+
+    -- step 5
+    pub branched-is : (r : Put) (n : After) → firstUnresolved (t .state .store) (t .parent) ≡ none → isFull (t .parent) ≡ false
+        → Puts removed-step (branching (decisionSizes (q .plant)) (t .parent)) after r → PutNext g r n
+        → NextIs q after store codes costs n (expand (q .plant) (orderOf (q .plant)) (q .wanted) (length queue / 2) (length store / 2) limit (t .state) (t .rest) (t .parent))
+    unfolding expand
+    branched-is r n f b h e = rw (expand, f, b) (put-is (branching (decisionSizes (q .plant)) (t .parent)) r n h e)
+
+  -- step 7
+  pub judged-is : firstUnresolved (t .state .store) (t .parent) ≡ none → isFull (t .parent) ≡ true
+      → judge (q .plant) (orderOf (q .plant)) (q .wanted) (length queue / 2) (length store / 2) limit (t .state) (t .rest) (t .parent)
+      ≡ expand (q .plant) (orderOf (q .plant)) (q .wanted) (length queue / 2) (length store / 2) limit (t .state) (t .rest) (t .parent)
+  unfolding expand
+  judged-is f b = rw (expand, f, b) refl
+
+-- what the functions that it calls are given
+module _ {d : ℕ} {sizes prices counts lits sat uses vals : List ℕ} {preferred limit : ℕ} {codes costs queue store : List ℕ} {g : Progress} {node : Node}
+    (t : Expands d sizes prices counts lits sat uses vals preferred limit codes costs queue store g node) where
+  pub children-given : (d ≤ 16) × (d ≤ length sizes) × (16 * d ≤ length prices) × All Sized (take d sizes) × (2 * g .stored ≤ length store)
+  children-given =
+      let tabled = t .tables .tabled in
+      (tabled-few tabled, tabled .decisions, tabled .cost-room, rw (tabled-decisions tabled) at (tabled-sized tabled), removed-room (t .taken))
+
+  pub judge-given : Ready d sizes counts lits sat uses vals × ((q : Question) × Removed q limit queue store codes costs g node)
+  judge-given = (tabled-ready (t .tables .tabled) (t .tables .prepared) (t .tables .bytes), (t .question, t .taken))
+
+-- ---- step 3
+
+-- a list with no elements, and one with some
+no-elements : (xs : List Assignment) → length xs ≡ 0 → xs ≡ []
+no-elements [] e = refl
+no-elements (x ∷ xs) e = absurd (omega arith)
+
+first-element : (xs : List Assignment) → 0 < length xs → (n : Assignment) × (rest : List Assignment) × (xs ≡ n ∷ rest)
+first-element [] h = absurd (omega arith)
+first-element (x ∷ xs) h = (x, xs, refl)
+
+-- the node in front is removed
+step-expand : (p : Plant) (o : Order) {k wanted entries others : ℕ} (places limit : ℕ) (s : State) (n : Assignment) (rest : List Assignment) → wanted ≡ k → others ≡ entries
+    → ltb (length (s .listed)) k ≡ true → s .queue ≡ n ∷ rest → expand p o wanted others places limit s rest n ≡ step p o k entries places limit s
+unfolding step remove
+step-expand p o {k} {entries = entries} places limit s n rest a b e f = rw (step, e, ap (remove p o k entries places limit s) f, a, b) refl
+
+module _ {d : ℕ} {sizes prices counts lits sat uses vals : List ℕ} {preferred k limit : ℕ} {codes costs queue store : List ℕ} {g : Progress}
+    (t : Steps d sizes prices counts lits sat uses vals preferred k limit codes costs queue store g) where
+  -- as many states are listed as are wanted
+  pub step-enough : k ≤ g .listed
+      → NextIs (t .question) queue store codes costs (After.Ended Ending.Enough g) (step (t .question .plant) (orderOf (t .question .plant)) k (length queue / 2) (length store / 2) limit (t .state))
+  unfolding step
+  step-enough h = let w = t .turn .standing .written in rw (step, le-ltb (length (t .state .listed)) k (omega (arith, w .listed-is))) (refl, w)
+
+  module _ (wanting : g .listed < k) where
+    fewer : ltb (length (t .state .listed)) k ≡ true
+    fewer = lt-ltb (length (t .state .listed)) k (omega (arith, t .turn .standing .written .listed-is))
+
+    -- the queue has no nodes
+    pub step-all : g .queued ≡ 0
+        → NextIs (t .question) queue store codes costs (After.Ended Ending.All g) (step (t .question .plant) (orderOf (t .question .plant)) k (length queue / 2) (length store / 2) limit (t .state))
+    unfolding step remove
+    step-all h =
+        let p = t .question .plant in
+        rw (step, fewer, ap (remove p (orderOf p) k (length queue / 2) (length store / 2) limit (t .state)) (no-elements (t .state .queue) (t .turn .standing .holds .count ∙ h)))
+        (refl, t .turn .standing .written)
+
+    module _ (filled : 0 < g .queued) where
+      -- the node in front
+      front : (n : Assignment) × (rest : List Assignment) × (t .state .queue ≡ n ∷ rest)
+      front = first-element (t .state .queue) (omega (arith, t .turn .standing .holds .count))
+
+      searched : Searching (t .question .plant) (orderOf (t .question .plant)) (front .0 ∷ front .1) (t .state .listed)
+      searched = rw (front .2) at (t .turn .going .kept .searching)
+
+      -- the queue has one entry less
+      abbrev pub one-less : Progress
+      one-less = record {
+        queued = g .queued - 1;
+        stored = g .stored;
+        listed = g .listed;
+        tested = g .tested;
+        learned = g .learned;
+        unkept = g .unkept;
+        trials = g .trials;
+      }
+
+      module _ (after : List ℕ) (same : length after ≡ length queue) (a b : ℕ) (node : Node)
+          (popped : (o : Order) (n : Assignment) (rest : List Assignment) → Keyed o → Ordered o (n ∷ rest) → Holds o (g .queued) queue (n ∷ rest) → ((a, b) ≡ entryOf o n) × Holds o (g .queued - 1) after rest)
+          (read : (p : Plant) (n : Assignment) → Accepted edition1 p → Valid (decisionSizes p) n → (a, b) ≡ entryOf (orderOf p) n → NodeIs p n node) where
+        taken-out : ((a, b) ≡ entryOf (orderOf (t .question .plant)) (front .0)) × Holds (orderOf (t .question .plant)) (g .queued - 1) after (front .1)
+        taken-out = popped (orderOf (t .question .plant)) (front .0) (front .1) (cost-keyed (t .question .plant)) (searched .ordered) (rw (front .2) at (t .turn .standing .holds))
+
+        -- what the words stand for without it
+        pub left : Removed (t .question) limit after store codes costs one-less node
+        left =
+            let w = t .turn .standing .written in
+            record {
+              state = t .state;
+              parent = front .0;
+              rest = front .1;
+              turn = record {
+                survivors = t .turn .survivors;
+                going = t .turn .going;
+                standing = record {
+                  holds = taken-out .1;
+                  room = omega (arith, t .turn .standing .room);
+                  written = record {
+                    keeps = w .keeps;
+                    codes-are = w .codes-are;
+                    costs-are = w .costs-are;
+                    listed-is = w .listed-is;
+                    tested-is = w .tested-is;
+                    learned-is = w .learned-is;
+                    unkept-is = w .unkept-is;
+                    trials-is = w .trials-is;
+                  };
+                };
+                codes-room = t .turn .codes-room;
+                costs-room = t .turn .costs-room;
+              };
+              removed = front .2;
+              is = read (t .question .plant) (front .0) (t .tables .tabled .accepted) (searched .valid .0) (taken-out .0);
+              wanting = omega (arith, w .listed-is, t .asked);
+            }
+
+        abbrev pub removes : Expands d sizes prices counts lits sat uses vals preferred limit codes costs after store one-less node
+        removes = record { question = t .question; tables = t .tables; taken = left }
+
+        -- the rest of the step is the model's
+        pub step-removed : expand (t .question .plant) (orderOf (t .question .plant)) (t .question .wanted) (length after / 2) (length store / 2) limit (left .state) (left .rest) (left .parent)
+            ≡ step (t .question .plant) (orderOf (t .question .plant)) k (length queue / 2) (length store / 2) limit (t .state)
+        unfolding left
+        step-removed = step-expand (t .question .plant) (orderOf (t .question .plant)) (length store / 2) limit (t .state) (front .0) (front .1) (t .asked) (ap (λ (l : ℕ). l / 2) same) fewer (front .2)

@@ -1,0 +1,171 @@
+-- How a run starts: the empty assignment as a node, the words with it in the queue, and the survivors of step 1. Assumes nothing.
+use mathlib.Core.Path.{_≡_, refl, sym, ap, _∙_}
+use mathlib.Core.List.{List, [], _∷_, map}
+use Prim.Native.Nat.{ℕ, _/_, _<_}
+use native.Mathlib.Omega.{arith}
+use lib.ListN.{length, take, drop, replicate, take-append-drop}
+use Rattle.model.specs.Lists.{place}
+use Rattle.model.specs.Sheet.{Plant, decisionSizes}
+use Rattle.model.specs.Digits.{number, digits}
+use Rattle.model.specs.Assignment.{Assignment, Fits, bit, code}
+use Rattle.model.specs.Order.{cost, best, orderOf}
+use Rattle.model.specs.Listing.{Checked, checked, brokenOff, checkOffers, enqueue, unassigned, start, enoughSteps, run, listing}
+use Rattle.model.specs.Calls.{offersOf}
+use Rattle.theory.specs.Nodes.{weights}
+use Rattle.theory.specs.Tables.{Tabled, rows}
+use Rattle.theory.specs.Words.{HasRows, rows as rowsOf16}
+use Rattle.theory.proofs.Digits.{number-zeros}
+use Rattle.theory.proofs.Nodes.{unassigned-valid}
+use Rattle.theory.proofs.Tables.{tabled-count, tabled-few}
+use Rattle.theory.proofs.WordsCost.{cost-of-code}
+use Rattle.theory.proofs.Listing.{Survived, offers-survive, start-going}
+use Rattle.queue.specs.Queue.{Holds}
+use Rattle.children.specs.Children.{NodeIs}
+use Rattle.listing.specs.Run.{Written, Turn, Steps, FinishedAs}
+use Rattle.listing.specs.Offers.{OfferedAs}
+use Rattle.listing.specs.Calls.{question, buffers, Lists, Survivors}
+use Rattle.listing.specs.declared.offers.Offered.{Offered}
+use Rattle.listing.specs.declared.run.Progress.{Progress}
+use Rattle.listing.specs.declared.run.Ending.{Ending as Ended}
+use Rattle.listing.specs.declared.run.Finished.{Finished}
+use Rattle.listing.proofs.Running.{tabled-lawful, tabled-present, tabled-at-least, tabled-suits}
+
+-- ---- the empty assignment as a node
+
+-- no bit of its mask is set
+no-bits : (ss : List ℕ) → map bit (unassigned ss) ≡ replicate (length ss) 0
+no-bits [] = refl
+no-bits (s ∷ ss) = ap {B = List ℕ} (λ r. 0 ∷ r) (no-bits ss)
+
+-- its best state has the preferred values
+best-unassigned : (ss xs : List ℕ) → Fits ss xs → best xs (unassigned ss) ≡ xs
+best-unassigned [] [] h = refl
+best-unassigned [] (x ∷ xs) h = absurd h
+best-unassigned (s ∷ ss) [] h = absurd h
+best-unassigned (s ∷ ss) (x ∷ xs) h = ap {B = List ℕ} (λ r. x ∷ r) (best-unassigned ss xs (h .1))
+
+-- a table has the rows that are read from it
+has-rows : (sizes prices : List ℕ) → HasRows (rows sizes prices) prices
+unfolding rows
+has-rows [] prices = tt
+has-rows (n ∷ sizes) prices = ((drop n (take 16 prices), sym (take-append-drop n (take 16 prices))), has-rows sizes (drop 16 prices))
+
+module _ {p : Plant} {d : ℕ} {sizes prices counts lits : List ℕ} (t : Tabled p d sizes prices counts lits) where
+  tabled-rows : HasRows (p .costs) prices
+  tabled-rows = rw (t .plant) (has-rows (take d sizes) prices)
+
+  -- a code's cost by the table is the order's figure
+  preferred-cost : cost (rowsOf16 d prices) (digits 16 16 (code (orderOf p .preferred))) ≡ orderOf p .figure (orderOf p .preferred)
+  unfolding orderOf
+  preferred-cost = rw (← tabled-count t) (cost-of-code (p .costs) prices (orderOf p .preferred) (omega (arith, tabled-count t, tabled-few t)) (tabled-suits t .small) tabled-rows (tabled-suits t .preferred))
+
+  pub root-is : (preferred figure : ℕ) → figure ≡ cost (rowsOf16 d prices) (digits 16 16 preferred) → preferred ≡ code (orderOf p .preferred)
+      → NodeIs p (unassigned (decisionSizes p)) (record { mask = 0; code = preferred; cost = figure })
+  root-is preferred figure c e =
+      let b : best (orderOf p .preferred) (unassigned (decisionSizes p)) ≡ orderOf p .preferred = best-unassigned (decisionSizes p) (orderOf p .preferred) (tabled-suits t .preferred) in
+      record {
+        accepted = t .accepted;
+        valid = unassigned-valid (decisionSizes p);
+        mask-is = sym (ap (number 2 64) (no-bits (decisionSizes p)) ∙ number-zeros 2 64 (length (decisionSizes p)));
+        code-is = e ∙ ap code (sym b);
+        cost-is = c ∙ ap (λ (n : ℕ). cost (rowsOf16 d prices) (digits 16 16 n)) e ∙ preferred-cost ∙ ap (orderOf p .figure) (sym b);
+      }
+
+-- ---- the words at the start
+
+-- nothing is listed, tested or learned
+abbrev pub first : (queued stored used : ℕ) → Progress
+first queued stored used = record { queued = queued; stored = stored; listed = 0; tested = 0; learned = 0; unkept = 0; trials = used }
+
+-- the store, the list and the counts are those of the start
+start-written : {p : Plant} {limit : ℕ} {survivors : List Assignment} {used : ℕ} {store : List ℕ} {stored : ℕ} (k : ℕ) (codes costs : List ℕ) (queued : ℕ)
+    → Survivors p limit survivors used store stored → Written (question p k codes costs) store codes costs (first queued stored used) (start (decisionSizes p) survivors used)
+unfolding start
+start-written k codes costs queued s = record {
+  keeps = s .keeps;
+  codes-are = refl;
+  costs-are = refl;
+  listed-is = refl;
+  tested-is = refl;
+  learned-is = refl;
+  unkept-is = refl;
+  trials-is = refl;
+}
+
+module _ {d : ℕ} {sizes prices counts lits sat uses vals : List ℕ} {preferred k held : ℕ} {codes costs queue store : List ℕ}
+    (t : Lists d sizes prices counts lits sat uses vals preferred k held (buffers codes costs queue store)) where
+  -- what the tables give still holds with other buffers of the same lengths
+  abbrev pub lists-again : {vals′ store′ : List ℕ} → length vals′ ≡ length vals → Lists d sizes prices counts lits sat uses vals′ preferred k 0 (buffers codes costs queue store′)
+  lists-again e = record {
+    plant = t .plant;
+    tables = record { tabled = t .tables .tabled; prepared = t .tables .prepared; bytes = e ∙ t .tables .bytes; preferred-is = t .tables .preferred-is };
+    room = record { codes-room = t .room .codes-room; costs-room = t .room .costs-room; queue-room = t .room .queue-room; store-room = omega arith };
+  }
+
+  module _ {limit : ℕ} {survivors : List Assignment} {used : ℕ} {store′ : List ℕ} {stored : ℕ} (s : Survivors (t .plant) limit survivors used store′ stored) where
+    -- with the root in the queue
+    pub start-turn : (queue′ : List ℕ) → length queue′ ≡ length queue → Holds (orderOf (t .plant)) 1 queue′ (enqueue (orderOf (t .plant)) (unassigned (decisionSizes (t .plant))) [])
+        → Turn (question (t .plant) k codes costs) limit queue′ store′ codes costs (first 1 stored used) (start (decisionSizes (t .plant)) survivors used) (start (decisionSizes (t .plant)) survivors used .queue)
+    unfolding start place
+    start-turn queue′ e h =
+        let b = t .tables .tabled in
+        record {
+          survivors = survivors;
+          going = start-going (t .plant) (orderOf (t .plant)) (tabled-lawful b) (tabled-present b) (tabled-at-least b) k limit survivors used (s .conflicts) (s .within);
+          standing = record { holds = h; room = omega (arith, t .room .queue-room); written = start-written k codes costs 1 s };
+          codes-room = t .room .codes-room;
+          costs-room = t .room .costs-room;
+        }
+
+    abbrev pub start-steps : (queue′ : List ℕ) → length queue′ ≡ length queue → Holds (orderOf (t .plant)) 1 queue′ (enqueue (orderOf (t .plant)) (unassigned (decisionSizes (t .plant))) [])
+        → Steps d sizes prices counts lits sat uses vals preferred k limit codes costs queue′ store′ (first 1 stored used)
+    start-steps queue′ e h = record {
+      question = question (t .plant) k codes costs;
+      state = start (decisionSizes (t .plant)) survivors used;
+      asked = refl;
+      tables = t .tables;
+      turn = start-turn queue′ e h;
+    }
+
+-- the queue weighs less than the steps allowed
+pub start-enough : (ss : List ℕ) (survivors : List Assignment) (used : ℕ) → weights ss (start ss survivors used .queue) < enoughSteps ss
+unfolding start enoughSteps
+start-enough ss survivors used = omega arith
+
+-- ---- step 1
+
+module _ {d : ℕ} {sizes prices counts lits sat uses vals : List ℕ} {preferred k held : ℕ} {codes costs queue store : List ℕ}
+    (t : Lists d sizes prices counts lits sat uses vals preferred k held (buffers codes costs queue store)) (limit : ℕ) where
+  -- how step 1 ends
+  abbrev offered : Checked
+  offered = checkOffers (t .plant) limit [] (offersOf held store) 0
+
+  survived : Survived (t .plant) limit offered
+  survived = offers-survive (t .plant) (tabled-present (t .tables .tabled)) limit [] (offersOf held store) 0 tt (omega arith)
+
+  module _ {after : List ℕ} {m used : ℕ} where
+    -- all were checked: the survivors are conflicts
+    pub checked-survivors : (o : OfferedAs (t .plant) after (Offered.Checked m used) offered) → Survivors (t .plant) limit (o .0) used after m
+    checked-survivors o = let s : Survived (t .plant) limit (checked (o .0) used) = rw (o .2) at survived in record { keeps = o .1; conflicts = s .0; within = s .1 }
+
+    -- and the listing is the run from there
+    pub checked-ends : (f : Finished) (codes′ costs′ : List ℕ) (o : OfferedAs (t .plant) after (Offered.Checked m used) offered) (store′ : List ℕ) → length after ≡ length store
+        → FinishedAs (question (t .plant) k codes costs) store′ codes′ costs′ f
+        (run (t .plant) (orderOf (t .plant)) k (length queue / 2) (length after / 2) limit (enoughSteps (decisionSizes (t .plant))) (start (decisionSizes (t .plant)) (o .0) used))
+        → FinishedAs (question (t .plant) k codes costs) store′ codes′ costs′ f
+        (listing (t .plant) (orderOf (t .plant)) k (length queue / 2) (length store / 2) (offersOf held store) limit)
+    unfolding listing
+    checked-ends f codes′ costs′ o store′ e h = rw (listing, o .2, ← e) h
+
+    -- the limit struck before the last
+    pub broken-ends : OfferedAs (t .plant) after (Offered.BrokenOff m used) offered
+        → FinishedAs (question (t .plant) k codes costs) after codes costs (record { ending = Ended.Spent; progress = first 0 m used })
+        (listing (t .plant) (orderOf (t .plant)) k (length queue / 2) (length store / 2) (offersOf held store) limit)
+    unfolding listing
+    broken-ends o =
+        let s : Survived (t .plant) limit (brokenOff (o .0) used) = rw (o .2) at survived in
+        record {
+          state = start (decisionSizes (t .plant)) (o .0) used;
+          ends = rw (listing, o .2);
+          written = start-written k codes costs 0 (record { keeps = o .1; conflicts = s .0; within = s .1 });
+        }

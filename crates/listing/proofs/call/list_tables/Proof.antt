@@ -1,0 +1,90 @@
+-- `call::list_tables` meets its contract: the sets and the preferred values are made once, steps 1 to 7 run, and what they leave is answered. Assumes nothing.
+use mathlib.Core.Path.{sym}
+use native.Mathlib.Omega.{arith}
+use lib.Seq.{length-take-le}
+use Rattle.theory.proofs.Tables.{tabled-decisions, tabled-few, tabled-sized}
+use Rattle.consistency.proofs.Callers.{tables-more}
+use Rattle.conflict.proofs.Given.{tabled-limits}
+use Rattle.listing.proofs.Answering.{lists-of, finished-room, finished-called}
+use borrow.Author.Needs.{needs}
+use Rattle.listing.proofs.call.list_tables.Statement.{statement}
+use Rattle.listing.proofs.call.list_tables.Tie as tie
+
+slice-aggregate-prepare : tie.Need-slice-aggregate-prepare
+slice-aggregate-prepare c = search needs
+
+slice-aggregate-prepare-2 : tie.Need-slice-aggregate-prepare-2
+slice-aggregate-prepare-2 c = search needs
+
+prepare-requires : tie.Need-prepare-requires
+prepare-requires c κs = 
+    let l = tabled-limits (c .before .before .before .before .before .before .before .before .before .before .pre .0 .1) in
+    (tables-more _ 48 _ _ (l .few) (l .tables), omega arith, omega arith)
+
+preferred-requires : tie.Need-preferred-requires
+preferred-requires c κs = 
+    let t = c .before .before .before .before .before .before .before .before .before .before .before .before .before .pre .0 .1 in
+    (tabled-few t, t .decisions, t .cost-room, rw (tabled-decisions t) at (tabled-sized t))
+
+slice-aggregate-listing : tie.Need-slice-aggregate-listing
+slice-aggregate-listing c = search needs
+
+slice-aggregate-listing-2 : tie.Need-slice-aggregate-listing-2
+slice-aggregate-listing-2 c = search needs
+
+array-borrow-prefix-vals : tie.Need-array-borrow-prefix-vals
+array-borrow-prefix-vals c = tabled-limits (c .before .before .before .before .before .before .before .before .before .before .before .before .before .before .before .before .pre .0 .1) .few
+
+slice-aggregate-listing-3 : tie.Need-slice-aggregate-listing-3
+slice-aggregate-listing-3 c = sym (length-take-le _ _ (tabled-limits (c .before .before .before .before .before .before .before .before .before .before .before .before .before .before .before .before .before .pre .0 .1) .few))
+
+listing-requires : tie.Need-listing-requires
+listing-requires c κs = 
+    let s = c .before .before .before .before .before .before .before .before .before .before .before .before .before .before .before .before .before .before .before .before .before in
+    let t = s .pre .0 .1 in
+    lists-of t (c .before .before .before .before .before .before .before .before .before .before .prepare .ensures) (length-take-le _ _ (tabled-limits t .few)) (c .before .before .before .before .before .before .before .preferred .ensures _ _ _ t) (s .pre .1)
+
+finish-requires : tie.Need-finish-requires
+finish-requires c κs = 
+    let s = c .before .before .before .before .before .before .before .before .before .before .before .before .before .before .before .before .before .before .before .before .before .before .before .before .before .before .before .before .before .before .before .before .before in
+    let t = s .pre .0 .1 in
+    finished-room (c .before .before .before .before .before .before .before .before .before .before .before .listing .ensures (lists-of t (c .before .before .before .before .before .before .before .before .before .before .before .before .before .before .before .before .before .before .before .before .before .before .prepare .ensures) (length-take-le _ _ (tabled-limits t .few)) (c .before .before .before .before .before .before .before .before .before .before .before .before .before .before .before .before .before .before .before .preferred .ensures _ _ _ t) (s .pre .1)))
+
+same-length : tie.Need-same-length
+same-length c = search needs
+
+same-length-2 : tie.Need-same-length-2
+same-length-2 c = search needs
+
+same-length-3 : tie.Need-same-length-3
+same-length-3 c = search needs
+
+same-length-4 : tie.Need-same-length-4
+same-length-4 c = search needs
+
+returns : tie.Need-returns
+returns c p t =
+    let s = c .before .before .before .before .before .before .before .before .before .before .before .before .before .before .before .before .before .before .before .before .before .before .before .before .before .before .before .before .before .before .before .before .before .before .before .before .before .before in
+    let l = c .before .before .before .before .before .before .before .before .before .before .before .before .before .before .before .before .listing in
+    let h = l .ensures (lists-of t (c .before .before .before .before .before .before .before .before .before .before .before .before .before .before .before .before .before .before .before .before .before .before .before .before .before .before .before .prepare .ensures) (length-take-le _ _ (tabled-limits t .few)) (c .before .before .before .before .before .before .before .before .before .before .before .before .before .before .before .before .before .before .before .before .before .before .before .before .preferred .ensures p _ _ t) (s .pre .1)) in
+    finished-called p (s .args .k) (s .args .held) (s .args .limit) _ _ _ _ h (l .kept .1 .1 .1 .1 .1 .1 .1 .1 .1 .1 .1 .0) (l .kept .1 .1 .1 .1 .1 .1 .1 .1 .1 .1 .1 .1 .0) (c .before .before .before .before .finish .ensures)
+
+pub list-tables-spec : {M : Type 1} → statement M
+list-tables-spec =
+    tie.close
+    (tie.spec
+    slice-aggregate-prepare
+    slice-aggregate-prepare-2
+    prepare-requires
+    preferred-requires
+    slice-aggregate-listing
+    slice-aggregate-listing-2
+    array-borrow-prefix-vals
+    slice-aggregate-listing-3
+    listing-requires
+    finish-requires
+    same-length
+    same-length-2
+    same-length-3
+    same-length-4
+    returns)

@@ -1,0 +1,95 @@
+-- `run::learn` meets its contract: one law for each way out. Assumes nothing.
+use native.Mathlib.Omega.{arith}
+use borrow.Author.Needs.{needs}
+use Rattle.listing.proofs.Judging.{learn-unkept, learn-spent, learn-conflict}
+use Rattle.listing.proofs.run.learn.Statement.{statement}
+use Rattle.listing.proofs.run.learn.Tie as tie
+
+add-t22 : tie.Need-add-t22
+add-t22 c = search needs
+
+add-t23 : tie.Need-add-t23
+add-t23 c = search needs
+
+returns : tie.Need-returns
+returns c q prices codes costs tb t = learn-unkept t _ (c .before .before .if1 .taken)
+
+values-requires : tie.Need-values-requires
+values-requires c κs = search needs
+
+reduce-requires : tie.Need-reduce-requires
+reduce-requires c κs = search needs
+
+enum-known-t : tie.Need-enum-known-t
+enum-known-t c = search needs
+
+add-t31 : tie.Need-add-t31
+add-t31 c = search needs
+
+enum-known-mask : tie.Need-enum-known-mask
+enum-known-mask c = search needs
+
+append-requires : tie.Need-append-requires
+append-requires c κs = search needs
+
+sieve-requires : tie.Need-sieve-requires
+sieve-requires c κs = search needs
+
+add-t38 : tie.Need-add-t38
+add-t38 c = omega (arith, c .before .before .before .before .before .before .before .before .before .before .before .before .before .before .before .before .before .if1 .left, c .before .before .before .before .before .before .before .before .before .before .before .before .before .before .before .before .before .before .before .before .before .before .before .before .before .before .before .good .1 .1 .1 .1 .1 .1 .1 .1 .0 .0)
+
+add-t39 : tie.Need-add-t39
+add-t39 c = omega (arith, c .before .before .before .before .before .before .before .before .before .before .before .before .before .before .before .before .before .before .before .before .before .before .before .before .before .before .before .before .pre)
+
+add-t40 : tie.Need-add-t40
+add-t40 c = omega (arith, c .before .before .before .before .before .before .before .before .before .before .before .before .before .before .before .before .before .before .before .before .before .before .before .before .before .before .before .before .before .pre)
+
+same-length : tie.Need-same-length
+same-length c = search needs
+
+returns-2 : tie.Need-returns-2
+returns-2 c q prices codes costs tb t =
+    let k = c .before .before .before .before .before .before in
+    let w = k .before .values .ensures (q .plant) (t .parent) (t .is) in
+    learn-spent t _ (k .before .before .before .if1 .left) _ (k .reduce .ensures (q .plant) prices tb (t .parent) w (t .is .valid)) _ (c .before .before .t .given .1)
+
+same-length-2 : tie.Need-same-length-2
+same-length-2 c = search needs
+
+same-length-3 : tie.Need-same-length-3
+same-length-3 c = search needs
+
+same-length-4 : tie.Need-same-length-4
+same-length-4 c = search needs
+
+returns-3 : tie.Need-returns-3
+returns-3 c q prices codes costs tb t =
+    let k = c .before .before .before .before .before .before .before .before .before .before .before .before .before .before .before .before in
+    let s = c .before .before .before .before .before .sieve in
+    let w = k .before .values .ensures (q .plant) (t .parent) (t .is) in
+    learn-conflict t _ (k .before .before .before .if1 .left) _ (k .reduce .ensures (q .plant) prices tb (t .parent) w (t .is .valid)) (c .before .before .before .before .before .before .before .before .before .before .before .before .mask .given .1)
+    _ _ _ (s .kept .0) (c .before .before .before .before .before .before .before .before .before .append .ensures .0) (s .ensures)
+
+pub learn-spec : {M : Type 1} → statement M
+learn-spec =
+    tie.close
+    (tie.spec
+    add-t22
+    add-t23
+    returns
+    values-requires
+    reduce-requires
+    enum-known-t
+    add-t31
+    enum-known-mask
+    append-requires
+    sieve-requires
+    add-t38
+    add-t39
+    add-t40
+    same-length
+    returns-2
+    same-length-2
+    same-length-3
+    same-length-4
+    returns-3)
