@@ -45,3 +45,29 @@ pub fn mixed_u64(hash: u32, n: u64) -> u32
         (n % 4294967296) as u32,
     )
 }
+
+// The checksum with the numbers of a slice, four bytes each.
+pub fn mixed_all_u32(hash: u32, numbers: &[u32]) -> u32
+    ensures { λ r. ⌜ r ≡ over mix32 hash (now (numbers .entry)) ⌝ }
+{
+    let mut h = hash;
+    let mut i = 0;
+    while i < numbers.len() {
+        h = mixed_u32(h, numbers[i]);
+        i += 1;
+    }
+    h
+}
+
+// The checksum with the numbers of a slice, eight bytes each.
+pub fn mixed_all_u64(hash: u32, numbers: &[u64]) -> u32
+    ensures { λ r. ⌜ r ≡ over mix64 hash (now (numbers .entry)) ⌝ }
+{
+    let mut h = hash;
+    let mut i = 0;
+    while i < numbers.len() {
+        h = mixed_u64(h, numbers[i]);
+        i += 1;
+    }
+    h
+}

@@ -1,0 +1,119 @@
+-- `replay_listings::replay_on` meets its contract: a number of two bytes is at most the length of each array. Assumes nothing.
+use native.Mathlib.Omega.{arith}
+use borrow.Author.Needs.{needs}
+use lib.ListN.{length-take}
+use Rattle.replay_listings.proofs.replay_on.Statement.{statement}
+use Rattle.replay_listings.proofs.replay_on.Tie as tie
+
+read-u16-requires : tie.Need-read-u16-requires
+read-u16-requires c κs = search needs
+
+read-u16-requires-2 : tie.Need-read-u16-requires-2
+read-u16-requires-2 c κs = search needs
+
+read-u16-requires-3 : tie.Need-read-u16-requires-3
+read-u16-requires-3 c κs = search needs
+
+read-u16-requires-4 : tie.Need-read-u16-requires-4
+read-u16-requires-4 c κs = search needs
+
+read-u16-requires-5 : tie.Need-read-u16-requires-5
+read-u16-requires-5 c κs = search needs
+
+read-u32-requires : tie.Need-read-u32-requires
+read-u32-requires c κs = search needs
+
+read-u16-requires-6 : tie.Need-read-u16-requires-6
+read-u16-requires-6 c κs = search needs
+
+slice-aggregate-fill-u64 : tie.Need-slice-aggregate-fill-u64
+slice-aggregate-fill-u64 c = search needs
+
+fill-u64-requires : tie.Need-fill-u64-requires
+fill-u64-requires c κs = search needs
+
+slice-aggregate-fill-u32 : tie.Need-slice-aggregate-fill-u32
+slice-aggregate-fill-u32 c = search needs
+
+fill-u32-requires : tie.Need-fill-u32-requires
+fill-u32-requires c κs = search needs
+
+slice-aggregate-fill-u64-2 : tie.Need-slice-aggregate-fill-u64-2
+slice-aggregate-fill-u64-2 c = search needs
+
+fill-u64-requires-2 : tie.Need-fill-u64-requires-2
+fill-u64-requires-2 c κs = search needs
+
+slice-aggregate-fill-u64-3 : tie.Need-slice-aggregate-fill-u64-3
+slice-aggregate-fill-u64-3 c = search needs
+
+fill-u64-requires-3 : tie.Need-fill-u64-requires-3
+fill-u64-requires-3 c κs = search needs
+
+slice-aggregate-read-words : tie.Need-slice-aggregate-read-words
+slice-aggregate-read-words c = search needs
+
+read-words-requires : tie.Need-read-words-requires
+read-words-requires c κs = search needs
+
+array-borrow-prefix-codes : tie.Need-array-borrow-prefix-codes
+array-borrow-prefix-codes c = omega arith
+
+slice-aggregate-answer : tie.Need-slice-aggregate-answer
+slice-aggregate-answer c = rw length-take (omega arith)
+
+array-borrow-prefix-costs : tie.Need-array-borrow-prefix-costs
+array-borrow-prefix-costs c = search needs
+
+slice-aggregate-answer-2 : tie.Need-slice-aggregate-answer-2
+slice-aggregate-answer-2 c = rw length-take (omega arith)
+
+array-borrow-prefix-queue : tie.Need-array-borrow-prefix-queue
+array-borrow-prefix-queue c = search needs
+
+slice-aggregate-answer-3 : tie.Need-slice-aggregate-answer-3
+slice-aggregate-answer-3 c = rw length-take (omega arith)
+
+array-borrow-prefix-store : tie.Need-array-borrow-prefix-store
+array-borrow-prefix-store c = search needs
+
+slice-aggregate-answer-4 : tie.Need-slice-aggregate-answer-4
+slice-aggregate-answer-4 c = rw length-take (omega arith)
+
+answer-requires : tie.Need-answer-requires
+answer-requires c κs = search needs
+
+returns : tie.Need-returns
+returns c = search needs
+
+pub replay-on-spec : {M : Type 1} → statement M
+replay-on-spec =
+    tie.close
+    (tie.spec
+    read-u16-requires
+    read-u16-requires-2
+    read-u16-requires-3
+    read-u16-requires-4
+    read-u16-requires-5
+    read-u32-requires
+    read-u16-requires-6
+    slice-aggregate-fill-u64
+    fill-u64-requires
+    slice-aggregate-fill-u32
+    fill-u32-requires
+    slice-aggregate-fill-u64-2
+    fill-u64-requires-2
+    slice-aggregate-fill-u64-3
+    fill-u64-requires-3
+    slice-aggregate-read-words
+    read-words-requires
+    array-borrow-prefix-codes
+    slice-aggregate-answer
+    array-borrow-prefix-costs
+    slice-aggregate-answer-2
+    array-borrow-prefix-queue
+    slice-aggregate-answer-3
+    array-borrow-prefix-store
+    slice-aggregate-answer-4
+    answer-requires
+    returns)

@@ -1,0 +1,154 @@
+// Replays the listings that `outside/vectors.py listings` writes: reads them from standard input, makes each call in
+// buffers of the lengths and words that the case says, and prints its answer and a checksum of every lent word. What it
+// must print was written by the outside program.
+use listing::call::Answer;
+use listing::call::Counts;
+use listing::run::Ending;
+use std::num::wrapping_add_u32;
+use std::num::wrapping_add_u64;
+use vectors::mixed_all_u32;
+use vectors::mixed_all_u64;
+use vectors::print_hex8;
+use vectors::print_number;
+use vectors::print_text;
+use vectors::read_block;
+use vectors::read_u16;
+use vectors::read_u32;
+use vectors::read_u64;
+ghost use mathlib.Core.Path.{_≡_};
+ghost use Prim.Native.Nat.{_≤_};
+ghost use lib.ListN.{length};
+ghost use Rattle.vectors.specs.Bytes.{over, mix32, mix64};
+
+// Makes every word junk plus its own place.
+fn fill_u64(words: &mut [u64], junk: u64) {
+    let mut word = junk;
+    let mut i = 0;
+    while i < words.len() {
+        words[i] = word;
+        word = wrapping_add_u64(word, 1);
+        i += 1;
+    }
+}
+
+// Makes every word junk plus its own place.
+fn fill_u32(words: &mut [u32], junk: u32) {
+    let mut word = junk;
+    let mut i = 0;
+    while i < words.len() {
+        words[i] = word;
+        word = wrapping_add_u32(word, 1);
+        i += 1;
+    }
+}
+
+// Reads the first n words.
+fn read_words(words: &mut [u64], n: usize)
+    requires { ⌜ n ≤ length (now words) ⌝ }
+{
+    let mut i = 0;
+    while i < n {
+        words[i] = read_u64();
+        i += 1;
+    }
+}
+
+// The checksum of every lent word.
+fn checksum(codes: &[u64], costs: &[u32], queue: &[u64], store: &[u64]) -> u32
+    ensures { λ r. ⌜ r ≡ over mix64 (over mix64 (over mix32 (over mix64 2166136261 (now (codes .entry))) (now (costs .entry))) (now (queue .entry))) (now (store .entry)) ⌝ }
+{
+    let coded = mixed_all_u64(2166136261, codes);
+    let priced = mixed_all_u32(coded, costs);
+    let queued = mixed_all_u64(priced, queue);
+    mixed_all_u64(queued, store)
+}
+
+// Prints the name of an ending.
+fn print_ending(e: Ending) {
+    match e {
+        Ending::Enough => print_text(b"enough "),
+        Ending::All => print_text(b"all "),
+        Ending::Full => print_text(b"full "),
+        Ending::Spent => print_text(b"spent "),
+    }
+}
+
+// Prints the counts of a run.
+fn print_counts(c: Counts) {
+    print_number(c.listed as u64, b' ');
+    print_number(c.tested as u64, b' ');
+    print_number(c.learned as u64, b' ');
+    print_number(c.unkept as u64, b' ');
+    print_number(c.trials as u64, b' ');
+}
+
+// Makes the call and prints its line.
+fn answer(
+    sheet: &[u8],
+    k: u32,
+    codes: &mut [u64],
+    costs: &mut [u32],
+    queue: &mut [u64],
+    store: &mut [u64],
+    held: usize,
+    limit: u32,
+) {
+    match listing::call::list(sheet, k, codes, costs, queue, store, held, limit) {
+        Answer::Refused(r) => {
+            print_text(b"refused ");
+            print_number(conflict::calls::number(r) as u64, b'\n');
+        }
+        Answer::Ran(e, c) => {
+            print_ending(e);
+            print_counts(c);
+            print_hex8(checksum(codes, costs, queue, store), b'\n');
+        }
+    }
+}
+
+// Reads the rest of a case, from the lengths of its buffers on, and answers it.
+fn replay_on(sheet: &[u8], k: u32) {
+    let codes_len = read_u16();
+    let costs_len = read_u16();
+    let queue_len = read_u16();
+    let store_len = read_u16();
+    let held = read_u16();
+    let limit = read_u32();
+    let given = read_u16();
+    let mut codes = [0u64; 65536];
+    let mut costs = [0u32; 65536];
+    let mut queue = [0u64; 65536];
+    let mut store = [0u64; 65536];
+    fill_u64(&mut codes, 0x1111_1111_1111_1111);
+    fill_u32(&mut costs, 0x2222_2222);
+    fill_u64(&mut queue, 0x3333_3333_3333_3333);
+    fill_u64(&mut store, 0x4444_4444_4444_4444);
+    read_words(&mut store, given);
+    answer(
+        sheet,
+        k,
+        &mut codes[..codes_len],
+        &mut costs[..costs_len],
+        &mut queue[..queue_len],
+        &mut store[..store_len],
+        held,
+        limit,
+    );
+}
+
+// Reads one case and answers it.
+fn replay() {
+    let mut bytes = io::large_buffer();
+    let n = read_block(&mut bytes, read_u16());
+    let k = read_u32();
+    replay_on(&bytes[..n], k);
+}
+
+// Reads the number of cases, and replays each.
+fn main() {
+    let mut left = read_u16();
+    while left > 0 {
+        replay();
+        left -= 1;
+    }
+}
