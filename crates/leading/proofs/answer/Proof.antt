@@ -48,7 +48,7 @@ slice-aggregate-print-states-2 c = search needs
 
 print-states-requires : tie.Need-print-states-requires
 print-states-requires c κs =
-    let promised = rw (c .before .before .before .e .given .1) at (c .before .before .before .before .before .before .before .before .before .list .ensures .1 .1) in
+    let promised = rw (c .before .before .before .e .given .1) at (c .before .before .before .before .before .before .before .before .before .list .ensures .1) in
     (omega (arith, promised .3 .at-most-k), omega (arith, promised .3 .at-most-k))
 
 print-ending-requires : tie.Need-print-ending-requires
