@@ -1,4 +1,8 @@
-.PHONY: prove test bench
+.PHONY: run prove test bench
+# proves and builds the program `leading`, and runs it on the small plant
+run:
+	rt check leading
+	./target/bin/leading < crates/leading/stdin
 # proves every crate, and runs each program
 prove:
 	rt check
