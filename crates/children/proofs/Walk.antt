@@ -1,6 +1,6 @@
 -- What the words and the tables tell of one variable, and step 5: the children at the lowest that is unassigned. Assumes nothing.
 use mathlib.Core.Path.{_≡_, refl, sym, ap, _∙_}
-use mathlib.Core.Bool.{Bool, true, false, not, false≢true}
+use mathlib.Core.Bool.{Bool, true, false, false≢true}
 use mathlib.Core.Option.{Option, none, some}
 use mathlib.Core.List.{List, []}
 use Prim.Native.Nat.{ℕ, suc, _+_, _≤_, _<_}
@@ -15,7 +15,8 @@ use Rattle.model.specs.Listing.{branching}
 use Rattle.theory.specs.Plant.{Sized}
 use Rattle.theory.specs.Words.{Words, byte}
 use Rattle.theory.proofs.Lists.{all-map}
-use Rattle.theory.proofs.Agreement.{valid-length, Filled, filled-more}
+use Rattle.theory.specs.Nodes.{Filled}
+use Rattle.theory.proofs.Agreement.{valid-length, filled-more}
 use Rattle.theory.proofs.Words.{words-hold}
 use Rattle.theory.proofs.Children.{all-at, all-others, branching-at, branching-full}
 use Rattle.children.specs.Children.{Tables, Free, Step, Puts, variants, member}

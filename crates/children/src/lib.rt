@@ -8,14 +8,13 @@ ghost use mathlib.Core.Option.{none, some};
 ghost use Prim.Native.Nat.{ℕ, _+_, _*_, _≤_, _<_};
 ghost use lib.ListN.{length, getD, set, take};
 ghost use Rattle.model.specs.Lists.{All, valuesFrom};
-ghost use Rattle.model.specs.Digits.{digits};
 ghost use Rattle.model.specs.Sheet.{Plant, decisionSizes, edition1};
 ghost use Rattle.model.specs.Assignment.{Assignment, Valid};
 ghost use Rattle.model.specs.Order.{orderOf};
 ghost use Rattle.model.specs.Listing.{resolving, branching};
 ghost use Rattle.theory.specs.Plant.{Accepted, Sized};
 ghost use Rattle.theory.specs.Words.{Words, byte};
-ghost use Rattle.theory.proofs.Agreement.{Filled};
+ghost use Rattle.theory.specs.Nodes.{Filled};
 ghost use Rattle.queue.specs.Order.{entryOf};
 ghost use Rattle.children.specs.Children.{NodeIs, Tables, Free, Step, Puts, variants, member};
 
@@ -50,14 +49,6 @@ pub fn values(node: Node) -> u64
     node.code & words::widened(node.mask)
 }
 
-// A variable's value in a code.
-fn digit(code: u64, v: usize) -> usize
-    requires { ⌜ v < 16 ⌝ }
-    ensures { λ r. ⌜ (r ≡ getD (digits 16 16 code) v 0) × (r < 16) ⌝ }
-{
-    ((code >> (60 - 4 * v)) & 15) as usize
-}
-
 // What a variable's value costs.
 fn price(costs: &[u16], v: usize, x: usize) -> u32
     requires { ⌜ 16 * v + x < length (now costs) ⌝ }
@@ -71,7 +62,7 @@ pub fn given(node: Node, v: usize, x: usize, preferred: u64, costs: &[u16]) -> N
     requires { ⌜ (v < 16) × (x < 16) × (16 * v + 16 ≤ length (now costs)) ⌝ }
     ensures { λ r. ⌜ ((p : Plant) (n : Assignment) → NodeIs p n node → Free p n v (now (costs .entry)) preferred → x < getD (decisionSizes p) v 0 → NodeIs p (set n v (some x)) r) ⌝ }
 {
-    let old = digit(preferred, v);
+    let old = words::digit_at(preferred, v);
     let place = 60 - 4 * v;
     Node {
         mask: node.mask | (1 << (63 - v)),

@@ -1,6 +1,6 @@
 -- An assignment lent as bytes: reading, storing and the values of a full one. Assumes nothing.
 use mathlib.Core.Path.{_≡_, refl, sym, ap, ap₂, _∙_}
-use mathlib.Core.Bool.{true, false, not, false≢true}
+use mathlib.Core.Bool.{true, not, false≢true}
 use mathlib.Core.Option.{Option, none, some}
 use mathlib.Core.List.{List, [], _∷_, map}
 use Prim.Native.Nat.{ℕ, zero, suc, _<_}
@@ -12,7 +12,7 @@ use lib.ListN.{length, getD, set}
 use Rattle.model.specs.Lists.{All}
 use Rattle.model.specs.Assignment.{Assignment, Under, isSome, nibble, valueList}
 use Rattle.theory.specs.Words.{byte}
-use Rattle.theory.proofs.Agreement.{Filled}
+use Rattle.theory.specs.Nodes.{Filled}
 use Rattle.consistency.specs.Answers.{given}
 
 -- ---- one byte

@@ -10,7 +10,7 @@ use Rattle.model.specs.Sheet.{Literal}
 use Rattle.model.specs.Consistency.{anyFalse, explore}
 use Rattle.theory.specs.Tables.{clauses, total}
 use Rattle.theory.specs.Search.{mentions, satisfiedAt, satisfied, due}
-use Rattle.theory.proofs.Agreement.{Filled}
+use Rattle.theory.specs.Nodes.{Filled}
 use Rattle.consistency.specs.Answers.{given, Ended}
 use Rattle.consistency.specs.Sets.{SetOf}
 use Rattle.consistency.specs.declared.Answer.{Answer}

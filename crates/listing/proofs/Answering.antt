@@ -1,5 +1,5 @@
 -- From decoded tables to the run, and from its end to the model's call: the answer, the buffers and the promise. Assumes nothing.
-use mathlib.Core.Path.{_≡_, refl, sym, ap, _∙_}
+use mathlib.Core.Path.{_≡_, refl, _∙_}
 use mathlib.Core.Bool.{Bool, true, false}
 use mathlib.Core.List.{List, [], _∷_}
 use mathlib.Core.Option.{Option, none, some}
@@ -7,13 +7,13 @@ use Prim.Native.Nat.{ℕ, _*_, _/_, _≤_}
 use native.Mathlib.Omega.{arith}
 use borrow.Author.Tests.{ltb-false}
 use lib.Dec.{ltb}
-use lib.ListN.{length, set, replicate}
+use lib.ListN.{length, set}
 use Rattle.model.specs.Lists.{filled}
 use Rattle.model.specs.Sheet.{Plant, Read, got, edition1, readSheet}
 use Rattle.model.specs.Assignment.{code}
 use Rattle.model.specs.Order.{orderOf}
 use Rattle.model.specs.Listing.{Next, listing}
-use Rattle.model.specs.Calls.{byHost, byAuthor, refused, answered, Buffers, ran, Called, firstGiven, hostGrounds, offersOf, entryWords, buffersAfter, runOf, calledOf, listingWith, listingCall, refusalNumber, resultWords, exportedOf, exportCall}
+use Rattle.model.specs.Calls.{byHost, refused, Buffers, firstGiven, hostGrounds, offersOf, buffersAfter, runOf, calledOf, listingWith, listingCall, refusalNumber, resultWords, exportedOf, exportCall}
 use Rattle.theory.specs.Demand3.{PromisedBy}
 use Rattle.theory.specs.Tables.{clauses, Tabled}
 use Rattle.theory.proofs.Demand3.{promised}

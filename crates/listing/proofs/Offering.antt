@@ -1,17 +1,16 @@
 -- Step 1, entry by entry: what one check leaves is what the model's check goes on with. Assumes nothing.
-use mathlib.Core.Path.{_≡_, refl, sym, _∙_}
+use mathlib.Core.Path.{_≡_, _∙_}
 use mathlib.Core.Bool.{true, false}
 use mathlib.Core.List.{List, [], _∷_}
 use Prim.Native.Nat.{ℕ, _+_, _*_, _^_, _≤_, _<_}
 use native.Mathlib.Omega.{arith}
 use lib.ListN.{length, getD, take, drop, length-map}
 use Rattle.model.specs.Sheet.{Plant, decisionSizes}
-use Rattle.model.specs.Assignment.{Assignment, Valid, assignmentOf, wellFormed}
+use Rattle.model.specs.Assignment.{Assignment, assignmentOf, wellFormed}
 use Rattle.model.specs.Consistency.{consistent, inconsistent, spent, test}
-use Rattle.model.specs.Listing.{stored, checkOffers, checked, brokenOff}
+use Rattle.model.specs.Listing.{stored, checkOffers}
 use Rattle.model.specs.Calls.{offersOf}
 use Rattle.theory.specs.Tables.{Tabled}
-use Rattle.theory.specs.Words.{Words}
 use Rattle.theory.proofs.Tables.{tabled-decisions, tabled-count, tabled-few}
 use Rattle.theory.proofs.Words.{well-formed-valid, well-formed-words}
 use Rattle.store.specs.Store.{Keeps}

@@ -3,7 +3,7 @@ use mathlib.Core.Path.{_≡_, refl, sym, ap, _∙_}
 use mathlib.Core.List.{List, [], _∷_, map}
 use Prim.Native.Nat.{ℕ, _/_, _<_}
 use native.Mathlib.Omega.{arith}
-use lib.ListN.{length, take, drop, replicate, take-append-drop}
+use lib.ListN.{length, replicate}
 use Rattle.model.specs.Lists.{place}
 use Rattle.model.specs.Sheet.{Plant, decisionSizes}
 use Rattle.model.specs.Digits.{number, digits}
@@ -12,11 +12,11 @@ use Rattle.model.specs.Order.{cost, best, orderOf}
 use Rattle.model.specs.Listing.{Checked, checked, brokenOff, checkOffers, enqueue, unassigned, start, enoughSteps, run, listing}
 use Rattle.model.specs.Calls.{offersOf}
 use Rattle.theory.specs.Nodes.{weights}
-use Rattle.theory.specs.Tables.{Tabled, rows}
-use Rattle.theory.specs.Words.{HasRows, rows as rowsOf16}
+use Rattle.theory.specs.Tables.{Tabled}
+use Rattle.theory.specs.Words.{sixteens}
 use Rattle.theory.proofs.Digits.{number-zeros}
 use Rattle.theory.proofs.Nodes.{unassigned-valid}
-use Rattle.theory.proofs.Tables.{tabled-count, tabled-few}
+use Rattle.theory.proofs.Tables.{tabled-count, tabled-few, tabled-rows}
 use Rattle.theory.proofs.WordsCost.{cost-of-code}
 use Rattle.theory.proofs.Listing.{Survived, offers-survive, start-going}
 use Rattle.queue.specs.Queue.{Holds}
@@ -44,22 +44,13 @@ best-unassigned [] (x ∷ xs) h = absurd h
 best-unassigned (s ∷ ss) [] h = absurd h
 best-unassigned (s ∷ ss) (x ∷ xs) h = ap {B = List ℕ} (λ r. x ∷ r) (best-unassigned ss xs (h .1))
 
--- a table has the rows that are read from it
-has-rows : (sizes prices : List ℕ) → HasRows (rows sizes prices) prices
-unfolding rows
-has-rows [] prices = tt
-has-rows (n ∷ sizes) prices = ((drop n (take 16 prices), sym (take-append-drop n (take 16 prices))), has-rows sizes (drop 16 prices))
-
 module _ {p : Plant} {d : ℕ} {sizes prices counts lits : List ℕ} (t : Tabled p d sizes prices counts lits) where
-  tabled-rows : HasRows (p .costs) prices
-  tabled-rows = rw (t .plant) (has-rows (take d sizes) prices)
-
   -- a code's cost by the table is the order's figure
-  preferred-cost : cost (rowsOf16 d prices) (digits 16 16 (code (orderOf p .preferred))) ≡ orderOf p .figure (orderOf p .preferred)
+  preferred-cost : cost (sixteens d prices) (digits 16 16 (code (orderOf p .preferred))) ≡ orderOf p .figure (orderOf p .preferred)
   unfolding orderOf
-  preferred-cost = rw (← tabled-count t) (cost-of-code (p .costs) prices (orderOf p .preferred) (omega (arith, tabled-count t, tabled-few t)) (tabled-suits t .small) tabled-rows (tabled-suits t .preferred))
+  preferred-cost = rw (← tabled-count t) (cost-of-code (p .costs) prices (orderOf p .preferred) (omega (arith, tabled-count t, tabled-few t)) (tabled-suits t .small) (tabled-rows t) (tabled-suits t .preferred))
 
-  pub root-is : (preferred figure : ℕ) → figure ≡ cost (rowsOf16 d prices) (digits 16 16 preferred) → preferred ≡ code (orderOf p .preferred)
+  pub root-is : (preferred figure : ℕ) → figure ≡ cost (sixteens d prices) (digits 16 16 preferred) → preferred ≡ code (orderOf p .preferred)
       → NodeIs p (unassigned (decisionSizes p)) (record { mask = 0; code = preferred; cost = figure })
   root-is preferred figure c e =
       let b : best (orderOf p .preferred) (unassigned (decisionSizes p)) ≡ orderOf p .preferred = best-unassigned (decisionSizes p) (orderOf p .preferred) (tabled-suits t .preferred) in
@@ -68,7 +59,7 @@ module _ {p : Plant} {d : ℕ} {sizes prices counts lits : List ℕ} (t : Tabled
         valid = unassigned-valid (decisionSizes p);
         mask-is = sym (ap (number 2 64) (no-bits (decisionSizes p)) ∙ number-zeros 2 64 (length (decisionSizes p)));
         code-is = e ∙ ap code (sym b);
-        cost-is = c ∙ ap (λ (n : ℕ). cost (rowsOf16 d prices) (digits 16 16 n)) e ∙ preferred-cost ∙ ap (orderOf p .figure) (sym b);
+        cost-is = c ∙ ap (λ (n : ℕ). cost (sixteens d prices) (digits 16 16 n)) e ∙ preferred-cost ∙ ap (orderOf p .figure) (sym b);
       }
 
 -- ---- the words at the start

@@ -1,11 +1,9 @@
 // Step 1: the offered entries are checked in order, and those that survive move to the front of the store.
 use conflict::tests::tested;
 use consistency::Answer;
-ghost use mathlib.Core.Path.{_≡_};
 ghost use mathlib.Core.List.{List, []};
 ghost use Prim.Native.Nat.{ℕ, _+_, _*_, _≤_, _<_};
 ghost use lib.ListN.{length};
-ghost use Rattle.model.specs.Sheet.{Plant};
 ghost use Rattle.model.specs.Assignment.{Assignment};
 ghost use Rattle.model.specs.Listing.{checkOffers};
 ghost use Rattle.model.specs.Calls.{offersOf};

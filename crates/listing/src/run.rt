@@ -14,15 +14,14 @@ ghost use mathlib.Core.Bool.{true};
 ghost use mathlib.Core.List.{List};
 ghost use Prim.Native.Nat.{ℕ, _*_, _/_, _≤_, _<_};
 ghost use lib.ListN.{length};
-ghost use Rattle.model.specs.Sheet.{Plant, decisionSizes};
-ghost use Rattle.model.specs.Assignment.{Assignment, isFull};
+ghost use Rattle.model.specs.Sheet.{decisionSizes};
+ghost use Rattle.model.specs.Assignment.{isFull};
 ghost use Rattle.model.specs.Order.{orderOf};
-ghost use Rattle.model.specs.Listing.{State, learn, judge, expand, step, run, putChildren};
+ghost use Rattle.model.specs.Listing.{learn, judge, expand, step, run};
 ghost use Rattle.theory.specs.Nodes.{weights};
 ghost use Rattle.theory.specs.Tables.{Tabled};
-ghost use Rattle.children.specs.Children.{PutOf};
 ghost use Rattle.conflict.specs.Given.{Ready};
-ghost use Rattle.listing.specs.Run.{Question, Tables, Standing, Turn, Removed, NextIs, FinishedAs, CanCount, PutNext, Expands, Steps};
+ghost use Rattle.listing.specs.Run.{Question, Removed, NextIs, FinishedAs, CanCount, PutNext, Expands, Steps};
 
 // How far a run is: the entries of queue and store, the states listed, and the counts.
 pub struct Progress {

@@ -1,10 +1,10 @@
 -- Document 01, "Who caused the refusal" and the three calls whole: from every number and lent buffer before to the answer and every lent buffer after. Assumes nothing: these are definitions.
 use mathlib.Core.Bool.{Bool, true, false, not, _&&_, _||_}
 use mathlib.Core.Option.{Option, none, some}
-use mathlib.Core.List.{List, [], _∷_, _++_, map}
-use Prim.Native.Nat.{ℕ, zero, suc, _+_, _-_, _*_, _/_, _%_}
+use mathlib.Core.List.{List, [], _∷_, map}
+use Prim.Native.Nat.{ℕ, zero, suc, _/_, _%_}
 use lib.Dec.{ltb, leb, eqb}
-use lib.ListN.{length, getD, replicate, take}
+use lib.ListN.{length, replicate, take}
 use Rattle.model.specs.Lists.{filled}
 use Rattle.model.specs.Sheet.{Plant, Read, got, Edition, edition1, readSheet, decisionSizes}
 use Rattle.model.specs.Assignment.{Assignment, maskOf, valuesOf, assignmentOf, maskFits, valuesFit, code}

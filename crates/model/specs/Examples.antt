@@ -1,6 +1,5 @@
 -- Document 01, "Small plant": P1 to P11, proved together as one table from the sheet's bytes and the settings to the answer. Assumes nothing.
 use mathlib.Core.Path.{_≡_, refl}
-use mathlib.Core.Bool.{Bool, true, false}
 use mathlib.Core.List.{List, [], _∷_, _++_}
 use Prim.Native.Nat.{ℕ, _*_, _-_, _/_}
 use lib.ListN.{length, take, replicate}
@@ -12,7 +11,7 @@ use Rattle.model.specs.Consistency.{holdsAt, literalFails, clauseFalse, 
 use Rattle.model.specs.Conflict.{reduceFrom, reduce}
 use Rattle.model.specs.Order.{costThenCode, orderOf}
 use Rattle.model.specs.Listing.{checkOffers, putChildren, learn, judge, expand, remove, step, run, start, enoughSteps, listing}
-use Rattle.model.specs.Calls.{refusalNumber, firstGiven, Answered, refused, answered, Buffers, Counts, Run, ran, unfinished, Called, hostGrounds, offersOf, entryWords, buffersAfter, calledOf, runOf, listingWith, listingCall, endingNumber}
+use Rattle.model.specs.Calls.{refusalNumber, firstGiven, Answered, refused, answered, Buffers, Run, ran, unfinished, Called, hostGrounds, offersOf, entryWords, buffersAfter, calledOf, runOf, listingWith, listingCall, endingNumber}
 
 -- the settings of a listing: the lengths of the lent buffers in words, the words offered at the store's start, and the numbers
 pub record Settings : Type 0 where

@@ -49,10 +49,6 @@ unfoldable pub then : {A B : Type 0} → Read A → (A → ℕ → Read B) → R
 then (refused n) next = refused n
 then (got a place) next = next a place
 
--- a rule about what has been read: where it fails, the refusal is n
-unfoldable pub must : {A : Type 0} → Bool → ℕ → Read A → Read A
-must rule n next = elim rule [ true ↦ next | false ↦ refused n ]
-
 -- n readings of one kind
 unfoldable pub many : {A : Type 0} → (ℕ → Read A) → ℕ → ℕ → Read (List A)
 many item zero place = got [] place

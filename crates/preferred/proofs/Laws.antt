@@ -4,7 +4,7 @@ use mathlib.Core.List.{List, [], _∷_, map}
 use Prim.Native.Nat.{ℕ, zero, suc, _+_, _-_, _*_, _%_, _^_, _≤_, _<_}
 use native.Mathlib.Omega.{arith}
 use native.Mathlib.Numerals.{add-one}
-use lib.ListN.{length, getD, take, drop, length-map, length-drop, take-append-drop, drop-of-length-le, List·getD-map}
+use lib.ListN.{length, getD, take, drop, length-map, length-drop, drop-of-length-le, List·getD-map}
 use lib.Seq.{drop-cons, drop-drop, getD-take, take-take, length-take-le}
 use lib.Pow.{shl-exact}
 use borrow.Rule.Slice.PartAt.{part-to-end}
@@ -17,7 +17,7 @@ use Rattle.model.specs.Order.{cheapestOf, cheapest, orderOf}
 use Rattle.theory.specs.Digits.{Below}
 use Rattle.theory.specs.Plant.{Accepted, Sized}
 use Rattle.theory.specs.Tables.{rows, Tabled}
-use Rattle.theory.proofs.Lists.{all-at, all-map, all-right, all-image}
+use Rattle.theory.proofs.Lists.{all-at, all-map, all-image}
 use Rattle.theory.proofs.Digits.{number-nil, number-below, number-digit}
 use Rattle.theory.proofs.Tables.{tabled-decisions, tabled-few, tabled-sized}
 use Rattle.theory.proofs.Order.{cheapest-least, cheapest-low, cheapest-small}

@@ -1,13 +1,13 @@
 -- What a caller of the sheet reader has: the plant by its tables, entry by entry. Assumes nothing.
 use mathlib.Core.Path.{_≡_, refl, sym, ap, _∙_, subst}
-use mathlib.Core.List.{List, [], _∷_, _++_, map}
-use Prim.Native.Nat.{ℕ, zero, suc, _+_, _-_, _*_, _≤_, _<_}
+use mathlib.Core.List.{List, [], _∷_, map}
+use Prim.Native.Nat.{ℕ, zero, suc, _+_, _*_, _≤_, _<_}
 use native.Mathlib.Omega.{arith}
 use native.Mathlib.Nat.{zero-add}
 use native.Mathlib.Numerals.{add-one}
-use lib.ListN.{length, getD, take, drop, length-map, length-take, length-drop, drop-of-length-le}
-use lib.Seq.{drop-cons, drop-drop, getD-take, getD-drop, length-take-le, take-add, take-take}
-use Rattle.model.specs.Sheet.{Literal, Plant, Read, got, refused, edition1, readSheet, sizes as sizesOf}
+use lib.ListN.{length, getD, take, drop, length-take, length-drop, drop-of-length-le}
+use lib.Seq.{drop-cons, drop-drop, getD-take, getD-drop, length-take-le, take-add}
+use Rattle.model.specs.Sheet.{got, refused, edition1, readSheet, sizes as sizesOf}
 use Rattle.theory.specs.Plant.{Accepted}
 use Rattle.theory.proofs.Sheet.{accepted}
 use Rattle.theory.specs.Tables.{literals, clauses, total, rows, plantOf}

@@ -1,14 +1,15 @@
 -- Values that fit domains and extend assignments, place by place. Assumes nothing.
 use mathlib.Core.Path.{_≡_, refl, sym, _∙_, ap}
 use mathlib.Core.Logic.{inl, inr, _↔_}
-use mathlib.Core.Bool.{true, false≢true}
+use mathlib.Core.Bool.{false≢true}
 use mathlib.Core.Option.{Option, none, some}
 use mathlib.Core.List.{List, [], _∷_, _++_}
 use Prim.Native.Nat.{ℕ, zero, suc, _<_}
 use native.Mathlib.Omega.{arith}
 use lib.ListN.{length, getD, set, replicate}
-use Rattle.model.specs.Assignment.{Assignment, Fits, Under, Valid, Takes, Agree, isSome, valueList, full}
+use Rattle.model.specs.Assignment.{Assignment, Fits, Under, Valid, Takes, Agree, valueList, full}
 use Rattle.theory.specs.Digits.{Lex}
+use Rattle.theory.specs.Nodes.{Filled}
 
 -- ---- lengths
 
@@ -115,12 +116,6 @@ full-valid (s ∷ ss) [] = ((λ h. h), λ h. h)
 full-valid (s ∷ ss) (x ∷ f) = let r = full-valid ss f in ((λ h. (h .0, r .0 (h .1))), λ h. (h .0, r .1 (h .1)))
 
 -- ---- filled up to a place
-
--- the first v variables are assigned
-abbrev pub Filled : ℕ → Assignment → Type 0
-Filled zero a = Unit {0}
-Filled (suc v) [] = ⊥
-Filled (suc v) (o ∷ a) = (isSome o ≡ true) × Filled v a
 
 -- the next variable is assigned too
 pub filled-more : (v : ℕ) (a : Assignment) (x : ℕ) → getD a v none ≡ some x → Filled v a → Filled (suc v) a

@@ -1,12 +1,12 @@
 -- The moves keep the invariant. Assumes nothing.
 use mathlib.Core.Path.{_≡_, refl, sym, _∙_}
-use mathlib.Core.Logic.{_⊎_, inl, inr, ⊎-elim}
+use mathlib.Core.Logic.{_⊎_, inl, inr}
 use mathlib.Core.List.{List, [], _∷_, _++_, append-nil}
 use mathlib.Core.Bool.{Bool}
 use lib.Dec.{T}
-use Rattle.model.specs.Lists.{Some, Mem, All, Pairs, Begins, keep}
+use Rattle.model.specs.Lists.{Some, Mem, All, Pairs, keep}
 use Rattle.theory.specs.BestFirst.{Apart, Weak, Inv}
-use Rattle.theory.proofs.Lists.{some-map, some-left, some-right, some-cases, all-map, all-join, all-left, all-right, all-zip, meet, from-members, at-member, pairs-join, pairs-left, pairs-right, pairs-across, some-keep, some-unkeep, pairs-keep}
+use Rattle.theory.proofs.Lists.{some-left, some-right, some-cases, all-map, all-join, all-zip, meet, at-member, pairs-join, pairs-across, some-keep, some-unkeep, pairs-keep}
 
 module _ {F N : Type 0} (_≺_ : F → F → Type 0) (In : F → N → Type 0) (Good : F → Type 0) where
   infix 4 _≺_

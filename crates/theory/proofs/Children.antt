@@ -14,7 +14,7 @@ use Rattle.model.specs.Lists.{All, keepIf, keep, valuesFrom}
 use Rattle.model.specs.Assignment.{Assignment}
 use Rattle.model.specs.Order.{cost, valueOr, best}
 use Rattle.model.specs.Listing.{otherValues, resolving, branching}
-use Rattle.theory.proofs.Agreement.{Filled}
+use Rattle.theory.specs.Nodes.{Filled}
 
 -- ---- lists
 

@@ -3,15 +3,15 @@ use mathlib.Core.Path.{_≡_, refl, sym, _∙_, ap, subst}
 use mathlib.Core.Logic.{_⊎_, inl, inr}
 use mathlib.Core.Bool.{Bool}
 use mathlib.Core.List.{List, [], _∷_, _++_, append-nil}
-use Prim.Native.Nat.{ℕ, zero, suc, _+_, _/_, _≤_, _<_}
+use Prim.Native.Nat.{ℕ, _/_, _≤_}
 use native.Mathlib.Omega.{arith}
 use native.Mathlib.Decide.{decLe}
 use lib.ListN.{length, length-append}
 use Rattle.model.specs.Lists.{Begins}
-use Rattle.model.specs.Sheet.{Plant, Read, got, edition1, readSheet, decisionSizes}
+use Rattle.model.specs.Sheet.{Plant, got, edition1, readSheet, decisionSizes}
 use Rattle.model.specs.Order.{Entry, product, wholeSet, orderOf}
 use Rattle.model.specs.Listing.{Ending, all}
-use Rattle.model.specs.Calls.{Answer, answered, Buffers, Counts, ran, Called, runList, listingWith}
+use Rattle.model.specs.Calls.{Answer, answered, Buffers, Counts, ran, runList, listingWith}
 use Rattle.theory.specs.Demand3.{Demand3, PromisedBy}
 use Rattle.theory.proofs.Demand3.{promised}
 

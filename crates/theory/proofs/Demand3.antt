@@ -1,27 +1,23 @@
 -- Demand 3 of every accepted call, and what follows for two runs. Assumes nothing.
 use mathlib.Core.Path.{_≡_, refl, sym, _∙_, ap}
 use mathlib.Core.Logic.{_⊎_, inl, inr}
-use mathlib.Core.Bool.{Bool, true, false, not, _||_}
+use mathlib.Core.Bool.{Bool}
 use mathlib.Core.Option.{Option, none, some}
-use mathlib.Core.List.{List, [], _∷_, _++_, map, map-append, append-assoc}
-use Prim.Native.Nat.{ℕ, zero, suc, _+_, _/_, _≤_, _<_}
+use mathlib.Core.List.{List, [], _∷_, map, map-append}
+use Prim.Native.Nat.{ℕ, zero, suc, _/_, _≤_, _<_}
 use native.Mathlib.Omega.{arith}
-use borrow.Author.Tests.{ltb-false}
-use lib.Dec.{ltb, T}
-use lib.ListN.{length, getD, take, drop, length-map}
+use lib.ListN.{length, getD, take, length-map}
 use Rattle.model.specs.Lists.{Some, Mem, All, Pairs, Begins, filled}
-use Rattle.model.specs.Sheet.{Plant, Read, got, Edition, edition1, readSheet, decisionSizes}
-use Rattle.model.specs.Assignment.{Assignment, Fits, code, full}
-use Rattle.model.specs.Consistency.{Consistent}
-use Rattle.model.specs.Order.{Order, Before, orderOf, Entry, entryOf, isConsistent, leadingStates, wholeSet}
-use Rattle.model.specs.Listing.{State, Ending, enough, all, Next, ended, Offer, listing}
-use Rattle.model.specs.Calls.{Ground, firstGiven, refused, answered, Buffers, Counts, ran, Called, hostGrounds, offersOf, entryWords, buffersAfter, countsOf, entriesOf, runList, calledOf, runOf, refusing, listingWith}
+use Rattle.model.specs.Sheet.{Plant, Read, got, edition1, readSheet, decisionSizes}
+use Rattle.model.specs.Assignment.{Assignment, code, full}
+use Rattle.model.specs.Order.{Order, Before, orderOf, Entry, entryOf, leadingStates, wholeSet}
+use Rattle.model.specs.Listing.{State, Ending, ended}
+use Rattle.model.specs.Calls.{firstGiven, refused, Buffers, hostGrounds, offersOf, buffersAfter, countsOf, entriesOf, runList, calledOf, runOf, listingWith}
 use Rattle.theory.specs.BestFirst.{Inv}
 use Rattle.theory.specs.Plant.{Accepted, Sized}
 use Rattle.theory.specs.Order.{In, Lawful}
-use Rattle.theory.specs.Consistency.{VariablesPresent}
 use Rattle.theory.specs.Run.{Good, Done}
-use Rattle.theory.specs.Demand3.{StoreAfter, Demand3, Promised}
+use Rattle.theory.specs.Demand3.{Demand3, Promised}
 use Rattle.theory.proofs.Lists.{at-member, all-at, all-map, all-image}
 use Rattle.theory.proofs.Filled.{filled-take, filled-drop, filled-at}
 use Rattle.theory.proofs.BestFirst.{listed-first, listed-all}

@@ -1,13 +1,13 @@
 -- Results that demand 3 rules out: an invented tally, a state left out, one listed twice, 'all' with a state missing, 'enough' with one too few, a wrong cost. Assumes nothing.
-use mathlib.Core.Path.{_≡_, refl, sym, _∙_, ap}
+use mathlib.Core.Path.{_≡_, sym, _∙_, ap}
 use mathlib.Core.Bool.{Bool, true, false}
-use mathlib.Core.List.{List, [], _∷_, _++_}
+use mathlib.Core.List.{List, [], _∷_}
 use Prim.Native.Nat.{ℕ, _+_, _≤_}
 use native.Mathlib.Omega.{arith}
 use lib.ListN.{length, getD}
 use Rattle.model.specs.Lists.{Begins}
 use Rattle.model.specs.Sheet.{Plant}
-use Rattle.model.specs.Order.{Order, Entry, orderOf, wholeSet}
+use Rattle.model.specs.Order.{Order, Entry, orderOf}
 use Rattle.model.specs.Listing.{Ending, enough, all}
 use Rattle.model.specs.Calls.{Buffers, Counts, runList}
 use Rattle.model.specs.Edges.{smallPlant, small-whole}

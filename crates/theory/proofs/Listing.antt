@@ -1,8 +1,8 @@
 -- Step 1, and the listing from its start to its end. Assumes nothing.
-use mathlib.Core.Path.{_≡_, refl, sym, _∙_, ap}
+use mathlib.Core.Path.{_≡_, refl, sym}
 use mathlib.Core.Bool.{Bool, true, false}
-use mathlib.Core.List.{List, [], _∷_, _++_, map, append-nil}
-use Prim.Native.Nat.{ℕ, _≤_, _<_}
+use mathlib.Core.List.{List, [], _∷_, append-nil}
+use Prim.Native.Nat.{ℕ, _≤_}
 use native.Mathlib.Omega.{arith}
 use lib.ListN.{length, length-map}
 use Rattle.model.specs.Lists.{All}
@@ -11,10 +11,10 @@ use Rattle.model.specs.Assignment.{Assignment, Valid, wellFormed, assignmentOf}
 use Rattle.model.specs.Consistency.{Tested, consistent, inconsistent, test}
 use Rattle.model.specs.Conflict.{Conflict}
 use Rattle.model.specs.Order.{Order}
-use Rattle.model.specs.Listing.{State, Ending, Next, ended, Offer, Checked, checked, brokenOff, checkOffers, stored, unassigned, start, enoughSteps, listing}
+use Rattle.model.specs.Listing.{State, Ending, ended, Offer, Checked, checked, brokenOff, checkOffers, stored, start, enoughSteps, listing}
 use Rattle.theory.specs.Order.{Lawful}
 use Rattle.theory.specs.Consistency.{VariablesPresent}
-use Rattle.theory.specs.Run.{Searching, Kept, Going, Done}
+use Rattle.theory.specs.Run.{Going, Done}
 use Rattle.theory.proofs.Lists.{all-join}
 use Rattle.theory.proofs.Words.{well-formed-valid}
 use Rattle.theory.proofs.Test.{test-inconsistent}

@@ -1,23 +1,23 @@
 -- What the moves of a listing do to what holds between its steps. Assumes nothing.
 use mathlib.Core.Path.{_≡_, refl, sym, _∙_, ap}
-use mathlib.Core.Logic.{_⊎_, inl, inr}
+use mathlib.Core.Logic.{inl, inr}
 use mathlib.Core.Bool.{Bool, true, false, not, false≢true}
-use mathlib.Core.Option.{Option, none, some}
+use mathlib.Core.Option.{none, some}
 use mathlib.Core.List.{List, [], _∷_, _++_, append-nil, append-assoc}
-use Prim.Native.Nat.{ℕ, zero, suc, _+_, _≤_, _<_}
+use Prim.Native.Nat.{ℕ, _+_}
 use native.Mathlib.Omega.{arith}
 use lib.Dec.{T}
-use lib.ListN.{length, length-append}
-use Rattle.model.specs.Lists.{Some, Mem, All, Pairs, keep, anyOf}
+use lib.ListN.{length-append}
+use Rattle.model.specs.Lists.{All, anyOf}
 use Rattle.model.specs.Sheet.{Plant, decisionSizes}
 use Rattle.model.specs.Assignment.{Assignment, Fits, Valid, Agree, isFull, valueList, full}
 use Rattle.model.specs.Consistency.{Consistent}
 use Rattle.model.specs.Conflict.{Conflict, Minimal, manifests, resolves}
-use Rattle.model.specs.Order.{Order, Before, best, product}
+use Rattle.model.specs.Order.{Order, Before, best}
 use Rattle.model.specs.Listing.{manifestsAny, leaveOff, stored, unassigned, enqueueAll, branching, resolving}
-use Rattle.theory.specs.BestFirst.{Apart, Weak, Inv}
+use Rattle.theory.specs.BestFirst.{Apart, Inv}
 use Rattle.theory.specs.Order.{In, Lawful}
-use Rattle.theory.specs.Nodes.{room, rooms}
+use Rattle.theory.specs.Nodes.{room}
 use Rattle.theory.specs.Run.{Good, Stored, Children, Searching}
 use Rattle.theory.proofs.Lists.{some-map, some-keep, all-map, all-zip, all-join, all-keep, pairs-map, pairs-keep, pairs-swap, sum-keep}
 use Rattle.theory.proofs.BestFirst as first

@@ -3,7 +3,6 @@ use mathlib.Core.Path.{_≡_, refl, sym, _∙_}
 use mathlib.Core.Logic.{_≢_, _↔_}
 use mathlib.Core.Bool.{true, false≢true}
 use mathlib.Core.Option.{none}
-use mathlib.Core.List.{List}
 use Prim.Native.Nat.{ℕ, zero, suc, _+_, _≤_, _<_}
 use native.Mathlib.Omega.{arith}
 use native.Mathlib.Decide.{ℕ-discrete}
@@ -13,7 +12,7 @@ use Rattle.model.specs.Sheet.{Plant, decisionSizes}
 use Rattle.model.specs.Assignment.{Assignment, Valid, isSome}
 use Rattle.model.specs.Consistency.{Tested, consistent, inconsistent, test, Consistent}
 use Rattle.model.specs.Conflict.{Conflict, Minimal, manifests, Reduced, conflict, spent, ReducedAlone, nothing, reduced, reduceFrom, reduce, reduceAlone}
-use Rattle.theory.specs.Consistency.{VariablesPresent, trialsOf, trialsOfReduced, trialsOfAlone, Counted, Alone}
+use Rattle.theory.specs.Consistency.{VariablesPresent, trialsOf, trialsOfAlone, Counted, Alone}
 use Rattle.theory.proofs.Agreement.{valid-set}
 use Rattle.theory.proofs.Containment.{manifests-self, manifests-more, consistent-without}
 use Rattle.theory.proofs.Test.{test-consistent, test-inconsistent}

@@ -1,10 +1,9 @@
 -- The trials of the reduction: they never fall and never pass the limit, and a larger limit that is not struck changes nothing. Assumes nothing.
 use mathlib.Core.Path.{_≡_, refl, _∙_}
-use mathlib.Core.Option.{none, some}
-use mathlib.Core.List.{List}
+use mathlib.Core.Option.{none}
 use Prim.Native.Nat.{ℕ, zero, suc, _+_, _≤_}
 use native.Mathlib.Omega.{arith}
-use lib.ListN.{length, getD, set}
+use lib.ListN.{length, set}
 use Rattle.model.specs.Sheet.{Plant}
 use Rattle.model.specs.Assignment.{Assignment}
 use Rattle.model.specs.Consistency.{Tested, consistent, inconsistent, test}

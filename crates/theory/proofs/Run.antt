@@ -1,26 +1,24 @@
 -- Each step of a run keeps what holds, or ends it; and every run ends. Assumes nothing.
-use mathlib.Core.Path.{_≡_, refl, sym, _∙_, ap}
-use mathlib.Core.Logic.{_⊎_, inl, inr}
+use mathlib.Core.Path.{_≡_, refl, ap}
 use mathlib.Core.Bool.{Bool, true, false, not}
 use mathlib.Core.Option.{Option, none, some}
-use mathlib.Core.List.{List, [], _∷_, _++_}
+use mathlib.Core.List.{List, [], _∷_}
 use Prim.Native.Nat.{ℕ, zero, suc, _+_, _≤_, _<_}
 use native.Mathlib.Omega.{arith}
 use borrow.Author.Tests.{ltb-true, ltb-false}
 use lib.Dec.{ltb}
 use lib.ListN.{length, length-append}
-use Rattle.model.specs.Lists.{Some, All, Pairs}
+use Rattle.model.specs.Lists.{All}
 use Rattle.model.specs.Sheet.{Plant, decisionSizes}
-use Rattle.model.specs.Assignment.{Assignment, Fits, Valid, Agree, isFull, valueList}
+use Rattle.model.specs.Assignment.{Assignment, isFull, valueList}
 use Rattle.model.specs.Consistency.{Consistent, Tested, consistent, inconsistent, test}
 use Rattle.model.specs.Conflict.{Conflict, Minimal, resolves, Reduced, conflict, reduce}
-use Rattle.model.specs.Order.{Order, product}
-use Rattle.model.specs.Listing.{State, Ending, enough, all, Next, ended, more, weight, manifestsAny, firstUnresolved, resolving, branching, leaveOff, enqueueAll, queued, listedOne, unkeptOne, learnedOne, spentInTest, spentInReduction, mostTested, putChildren, learn, judge, expand, remove, step, run}
-use Rattle.theory.specs.BestFirst.{Apart}
-use Rattle.theory.specs.Order.{In, Lawful}
-use Rattle.theory.specs.Consistency.{VariablesPresent, Counted}
-use Rattle.theory.specs.Nodes.{sumOf, weights, room, rooms}
-use Rattle.theory.specs.Run.{Good, strikes, Stored, Children, Searching, Kept, Going, Done, Stepped}
+use Rattle.model.specs.Order.{Order}
+use Rattle.model.specs.Listing.{State, Ending, Next, ended, more, weight, manifestsAny, firstUnresolved, resolving, branching, leaveOff, listedOne, unkeptOne, learnedOne, spentInTest, spentInReduction, mostTested, putChildren, learn, judge, expand, remove, step, run}
+use Rattle.theory.specs.Order.{Lawful}
+use Rattle.theory.specs.Consistency.{VariablesPresent}
+use Rattle.theory.specs.Nodes.{sumOf, weights, room}
+use Rattle.theory.specs.Run.{strikes, Children, Searching, Kept, Going, Done, Stepped}
 use Rattle.theory.proofs.Lists.{sum-keep}
 use Rattle.theory.proofs.Nodes.{weight-pos, rooms-length}
 use Rattle.theory.proofs.Test.{test-consistent, test-inconsistent}

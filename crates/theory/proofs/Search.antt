@@ -17,7 +17,8 @@ use Rattle.model.specs.Assignment.{Assignment, isSome, nibble}
 use Rattle.model.specs.Consistency.{holdsAt, literalFails, clauseFalse, anyFalse}
 use Rattle.theory.specs.Search.{isFree, holdsUnder, anyAt, anyFrom, mentions, satisfiedAt, satisfied, satisfiedFrom, waits, due, nth}
 use Rattle.theory.proofs.Lists.{all-map, all-any, or-neither}
-use Rattle.theory.proofs.Agreement.{Filled, filled-more, filled-set}
+use Rattle.theory.specs.Nodes.{Filled}
+use Rattle.theory.proofs.Agreement.{filled-more, filled-set}
 
 -- ---- whether some member passes a test
 

@@ -1,15 +1,16 @@
 -- What the tables of a plant say of it. Assumes nothing.
-use mathlib.Core.Path.{_≡_, refl, sym, ap, _∙_}
-use mathlib.Core.List.{List, [], _∷_, _++_, map}
-use Prim.Native.Nat.{ℕ, _+_, _≤_, _<_}
+use mathlib.Core.Path.{_≡_, sym, ap, _∙_}
+use mathlib.Core.List.{List, [], _∷_, _++_}
+use Prim.Native.Nat.{ℕ, _+_, _≤_}
 use native.Mathlib.Omega.{arith}
 use lib.ListN.{length, take, drop, length-map, take-append-drop}
 use lib.Seq.{length-take-le, take-take, take-add, drop-at}
 use Rattle.model.specs.Lists.{All}
-use Rattle.model.specs.Sheet.{Plant, Edition, edition1, decisionSizes, sizes}
-use Rattle.theory.specs.Plant.{Accepted, Sized}
+use Rattle.model.specs.Sheet.{Plant, edition1, decisionSizes, sizes}
+use Rattle.theory.specs.Plant.{Sized}
 use Rattle.theory.specs.Tables.{rows, clauses, plantFrom, plantOf, Tabled}
-use Rattle.theory.proofs.Lists.{all-map, all-image}
+use Rattle.theory.specs.Words.{HasRows}
+use Rattle.theory.proofs.Lists.{all-image}
 
 -- tables with room to spare hold the plant of their first parts
 pub plant-from : (d s c : ℕ) (sizes costs counts lits : List ℕ) → d + s ≤ length sizes → plantOf d s c sizes costs counts lits ≡ plantFrom d (take (d + s) sizes) costs (take c counts) lits
@@ -17,6 +18,12 @@ plant-from d s c sizes costs counts lits h =
     let a : take d (take (d + s) sizes) ≡ take d sizes = take-take d (d + s) sizes (omega arith) in
     let b : drop d (take (d + s) sizes) ≡ take s (drop d sizes) = rw (take-add d s sizes) (drop-at (take d sizes) (take s (drop d sizes)) d (length-take-le d sizes (omega arith))) in
     rw (a, b)
+
+-- a table has the rows that are read from it
+has-rows : (domains costs : List ℕ) → HasRows (rows domains costs) costs
+unfolding rows
+has-rows [] costs = tt
+has-rows (n ∷ domains) costs = ((drop n (take 16 costs), sym (take-append-drop n (take 16 costs))), has-rows domains (drop 16 costs))
 
 module _ {p : Plant} {d : ℕ} {domains costs counts lits : List ℕ} (t : Tabled p d domains costs counts lits) where
   -- the decision variables' sizes are the first d
@@ -37,6 +44,10 @@ module _ {p : Plant} {d : ℕ} {domains costs counts lits : List ℕ} (t : Table
 
   pub tabled-clauses : p .clauses ≡ clauses counts lits
   tabled-clauses = ap (λ (q : Plant). q .clauses) (t .plant)
+
+  -- the costs of the plant are rows of the table
+  pub tabled-rows : HasRows (p .costs) costs
+  tabled-rows = rw (t .plant) (has-rows (take d domains) costs)
 
   -- each domain has from 1 to 16 values
   pub tabled-sized : All Sized (decisionSizes p)

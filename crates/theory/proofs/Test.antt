@@ -19,7 +19,8 @@ use Rattle.theory.specs.BestFirst.{Weak}
 use Rattle.theory.specs.Plant.{Accepted}
 use Rattle.theory.specs.Consistency.{VariablesPresent}
 use Rattle.theory.proofs.Lists.{all-map}
-use Rattle.theory.proofs.Agreement.{fits-length, valid-length, fits-at, agree-at, agree-set, agree-unset, valid-set, valid-over, values-full, full-agree, full-only, full-valid, Filled, filled-more, filled-set, filled-all, lex-at}
+use Rattle.theory.specs.Nodes.{Filled}
+use Rattle.theory.proofs.Agreement.{fits-length, valid-length, fits-at, agree-at, agree-set, agree-unset, valid-set, valid-over, values-full, full-agree, full-only, full-valid, filled-more, filled-set, filled-all, lex-at}
 use Rattle.theory.proofs.TestClauses.{false-stays, clear-holds}
 use Rattle.theory.proofs.TestSteps.{assigned?, either, attempt, attempt-false, attempt-deeper, turn, turn-spent, hop-try, hop-skip, test-false, test-explore}
 

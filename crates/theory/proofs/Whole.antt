@@ -1,7 +1,7 @@
 -- The whole list of full consistent assignments: it ascends in the order, has exactly those members, and is the only such list. Assumes nothing.
-use mathlib.Core.Path.{_≡_, refl}
+use mathlib.Core.Path.{_≡_}
 use mathlib.Core.Logic.{_↔_, _≢_}
-use mathlib.Core.Bool.{Bool, true}
+use mathlib.Core.Bool.{true}
 use mathlib.Core.List.{List, [], append-nil}
 use Prim.Native.Nat.{ℕ}
 use Rattle.model.specs.Lists.{Mem, All, Pairs, keep}

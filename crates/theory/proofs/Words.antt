@@ -1,7 +1,7 @@
 -- Laws of the two words of an assignment: they determine it, they are well formed exactly when they are those of a valid one, and it is full exactly when its mask has a one for each variable. Assumes nothing.
 use mathlib.Core.Path.{_≡_, refl, sym, ap, ap₂, _∙_}
 use mathlib.Core.Logic.{_↔_}
-use mathlib.Core.Bool.{Bool, true, false, _&&_, false≢true}
+use mathlib.Core.Bool.{true, false≢true}
 use mathlib.Core.Option.{Option, none, some}
 use mathlib.Core.List.{List, [], _∷_, _++_, map}
 use Prim.Native.Nat.{ℕ, zero, suc, _+_, _-_, _%_, _^_, _≤_, _<_}
@@ -10,7 +10,7 @@ use native.Mathlib.Nat.{mod-eq-of-lt}
 use native.Mathlib.Numerals.{one-add}
 use lib.Count.{ones, ones-cat}
 use lib.Dec.{eqb, ltb, eqb·suc-suc}
-use lib.ListN.{length, getD, take, drop, set, replicate, length-replicate, length-map, length-take}
+use lib.ListN.{length, getD, take, drop, replicate, length-replicate, length-map, length-take}
 use lib.Seq.{getD-take, drop-at}
 use borrow.Author.Tests.{ne-eqb, eqb-true, ltb-true, lt-ltb}
 use Rattle.model.specs.Lists.{All}
@@ -20,6 +20,7 @@ use Rattle.theory.specs.Digits.{Below}
 use Rattle.theory.specs.Words.{Words}
 use Rattle.theory.proofs.Digits.{digits-length, digits-below, number-below, digits-number, number-take, zero-from, number-zeros}
 use Rattle.theory.proofs.Agreement.{valid-length}
+use Rattle.theory.proofs.Lists.{and-both}
 
 -- ---- the digits of the words
 
@@ -157,11 +158,6 @@ zeros : (n : ℕ) → allZero (replicate n 0) ≡ true
 zeros zero = refl
 zeros (suc n) = zeros n
 
--- both sides of a conjunction that is true are
-both-true : (s t : Bool) → (s && t) ≡ true → (s ≡ true) × (t ≡ true)
-both-true true t e = (refl, e)
-both-true false t e = absurd (false≢true e)
-
 -- the bits of what was read are the bits read
 bits-back : (d : ℕ) (bs xs : List ℕ) → Below 2 bs → d ≤ length xs → map bit (take d (optionals bs xs)) ≡ take d bs
 bits-back zero bs xs l h = refl
@@ -177,11 +173,11 @@ fit-back [] bs xs e = (refl, e, tt)
 fit-back (s ∷ domains) [] xs e = absurd (false≢true e)
 fit-back (s ∷ domains) (b ∷ bs) [] e = absurd (false≢true e)
 fit-back (s ∷ domains) (zero ∷ bs) (x ∷ xs) e =
-    let t = both-true (eqb x 0) (nibblesFit domains bs xs) e in
+    let t = and-both (eqb x 0) (nibblesFit domains bs xs) e in
     let r = fit-back domains bs xs (t .1) in
     (ap₂ (λ (y : ℕ) (r : List ℕ). y ∷ r) (sym (eqb-true x 0 (t .0))) (r .0), r .1, (tt, r .2))
 fit-back (s ∷ domains) (suc b ∷ bs) (x ∷ xs) e =
-    let t = both-true (ltb x s) (nibblesFit domains bs xs) e in
+    let t = and-both (ltb x s) (nibblesFit domains bs xs) e in
     let r = fit-back domains bs xs (t .1) in
     (ap {B = List ℕ} (λ r. x ∷ r) (r .0), r .1, (ltb-true x s (t .0), r .2))
 
@@ -204,14 +200,14 @@ module _ (domains : List ℕ) where
     -- well formed words hold a valid assignment
     pub well-formed-valid : Valid domains (assignmentOf (length domains) mask values)
     unfolding wellFormed valuesFit assignmentOf
-    well-formed-valid = fit-back domains (digits 2 64 mask) (digits 16 16 values) (both-true (maskFits domains mask) (valuesFit domains mask values) e .1) .2
+    well-formed-valid = fit-back domains (digits 2 64 mask) (digits 16 16 values) (and-both (maskFits domains mask) (valuesFit domains mask values) e .1) .2
 
     -- and are the words of it
     pub well-formed-words : length domains ≤ 16 → mask < 2 ^ 64 → values < 2 ^ 64 → Words (assignmentOf (length domains) mask values) mask values
     unfolding wellFormed maskFits valuesFit assignmentOf
     well-formed-words l fm fv =
         let d = length domains in
-        let t = both-true (maskFits domains mask) (valuesFit domains mask values) e in
+        let t = and-both (maskFits domains mask) (valuesFit domains mask values) e in
         let r = fit-back domains (digits 2 64 mask) (digits 16 16 values) (t .1) in
         record {
           short = omega (arith, assignment-length d mask values l);

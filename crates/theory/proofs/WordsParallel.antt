@@ -12,11 +12,12 @@ use lib.ListN.{length, replicate, length-map}
 use borrow.Author.Tests.{eq-eqb, ne-eqb, eqb-true, eqb-false}
 use Rattle.model.specs.Lists.{All}
 use Rattle.model.specs.Digits.{number}
-use Rattle.model.specs.Assignment.{Assignment, Under, bit, nibble, allZero, code}
+use Rattle.model.specs.Assignment.{Assignment, Agree, Under, bit, nibble, allZero, code}
 use Rattle.model.specs.Conflict.{contains, manifests, differs, resolves}
 use Rattle.model.specs.Order.{valueOr, best}
 use Rattle.theory.specs.Digits.{Below}
 use Rattle.theory.specs.Words.{Wide, fifteen, wideOf}
+use Rattle.theory.proofs.Agreement.{agree-length}
 use Rattle.theory.proofs.Digits.{number-below, number-zeros, digits-number, zero-from}
 use Rattle.theory.proofs.Words.{nibbles-below, mask-digits}
 use Rattle.theory.proofs.WordsDigits.{ByBlocks, and-blocks, or-blocks, xor-blocks, each, each-length, each-below, each-number}
@@ -214,3 +215,16 @@ pub best-word : (preferred : List ℕ) (a : Assignment) (wide values : ℕ) → 
 best-word preferred a wide values w e l =
     let c : Nibbles (length a) (code preferred) preferred = record { is = refl; below = l; long = e } in
     or-nibbles (values-nibbles a wide values w) (xor-nibbles c (and-nibbles c (wide-nibbles a wide values w))) .is ∙ ap (number 16 16) (best-all preferred a e l)
+
+-- values that extend an assignment, at the nibbles of the widened mask, are its values
+each-masked : (f : List ℕ) (a : Assignment) → Agree f a → Below 16 f → each bitAnd f (map spread a) ≡ map nibble a
+each-masked [] [] h l = refl
+each-masked [] (o ∷ a) h l = absurd h
+each-masked (x ∷ f) [] h l = absurd h
+each-masked (x ∷ f) (none ∷ a) h l = ap₂ {C = List ℕ} _∷_ (and-zero-r x) (each-masked f a (h .1) (l .1))
+each-masked (x ∷ f) (some y ∷ a) h l = ap₂ {C = List ℕ} _∷_ (and-mask x 4 ∙ mod-eq-of-lt (l .0) ∙ h .0) (each-masked f a (h .1) (l .1))
+
+pub masked-word : (f : List ℕ) (a : Assignment) (wide values : ℕ) → Wide a wide values → Agree f a → Below 16 f → bitAnd (code f) wide ≡ values
+masked-word f a wide values w h l =
+    let p : Nibbles (length a) (code f) f = record { is = refl; below = l; long = agree-length f a h } in
+    and-nibbles p (wide-nibbles a wide values w) .is ∙ ap (number 16 16) (each-masked f a h l) ∙ sym (w .words .values-is)

@@ -1,10 +1,10 @@
 -- Words about nodes, their children and the queue that the theorems use. Assumes nothing: these are definitions.
 use mathlib.Core.Path.{_≡_}
-use mathlib.Core.Bool.{Bool, true, false}
+use mathlib.Core.Bool.{true}
 use mathlib.Core.Option.{none, some}
 use mathlib.Core.List.{List, [], _∷_}
-use Prim.Native.Nat.{ℕ, _+_, _*_}
-use Rattle.model.specs.Assignment.{Assignment, Valid, Agree}
+use Prim.Native.Nat.{ℕ, zero, suc, _+_, _*_}
+use Rattle.model.specs.Assignment.{Assignment, Valid, Agree, isSome}
 use Rattle.model.specs.Lists.{Pairs}
 use Rattle.model.specs.Order.{Order, Before, best}
 use Rattle.model.specs.Listing.{weight}
@@ -37,3 +37,9 @@ rooms ss = sumOf (room ss)
 -- the queue is in the order of best states
 abbrev pub Ordered : Order → List Assignment → Type 0
 Ordered o = Pairs (λ m n. Before o (best (o .preferred) m) (best (o .preferred) n))
+
+-- the first v variables are assigned
+abbrev pub Filled : ℕ → Assignment → Type 0
+Filled zero a = Unit {0}
+Filled (suc v) [] = ⊥
+Filled (suc v) (o ∷ a) = (isSome o ≡ true) × Filled v a

@@ -35,9 +35,9 @@ pub record Wide (a : Assignment) (wide values : ℕ) : Type 0 where
   pub wide-is : wide ≡ wideOf mask
 
 -- the rows of d variables in a table with sixteen costs for each
-abbrev pub rows : ℕ → List ℕ → List (List ℕ)
-rows zero t = []
-rows (suc d) t = take 16 t ∷ rows d (drop 16 t)
+abbrev pub sixteens : ℕ → List ℕ → List (List ℕ)
+sixteens zero t = []
+sixteens (suc d) t = take 16 t ∷ sixteens d (drop 16 t)
 
 -- a table with sixteen costs for each variable has these rows: each begins its variable's sixteen
 abbrev pub HasRows : List (List ℕ) → List ℕ → Type 0

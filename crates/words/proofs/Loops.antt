@@ -13,7 +13,7 @@ use lib.Seq.{drop-cons, drop-drop, getD-take, getD-drop, length-take-le}
 use Rattle.model.specs.Digits.{digits}
 use Rattle.model.specs.Assignment.{optional, isSome, allZero, nibbleFits, nibblesFit, maskFits}
 use Rattle.model.specs.Order.{cost}
-use Rattle.theory.specs.Words.{rows}
+use Rattle.theory.specs.Words.{sixteens}
 use Rattle.theory.proofs.Digits.{digits-length}
 use Rattle.theory.proofs.WordsSet.{mask-beyond}
 
@@ -65,7 +65,7 @@ module _ (sizes : List ℕ) (d mask values v : ℕ) (short : d ≤ 16) (long : d
 
 -- what the variables from v on cost
 abbrev pub costFrom : ℕ → List ℕ → List ℕ → ℕ → ℕ
-costFrom d t f v = cost (rows (d - v) (drop (16 * v) t)) (drop v f)
+costFrom d t f v = cost (sixteens (d - v) (drop (16 * v) t)) (drop v f)
 
 -- the cost at variable v, and at those after it
 pub cost-step : (d : ℕ) (t f : List ℕ) (v : ℕ) → v < d → v < length f → getD f v 0 < 16 → costFrom d t f v ≡ getD t (16 * v + getD f v 0) 0 + costFrom d t f (v + 1)

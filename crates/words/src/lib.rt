@@ -14,7 +14,7 @@ ghost use Rattle.model.specs.Assignment.{Assignment, assignmentOf, isSome, isFu
 ghost use Rattle.model.specs.Conflict.{manifests, resolves};
 ghost use Rattle.model.specs.Order.{best, cost};
 ghost use Rattle.theory.specs.Digits.{Below};
-ghost use Rattle.theory.specs.Words.{Words, byte, wideOf, Wide, rows};
+ghost use Rattle.theory.specs.Words.{Words, byte, wideOf, Wide, sixteens};
 
 // The two words of an assignment.
 pub struct Pair {
@@ -180,7 +180,7 @@ pub fn best_values(values: u64, wide: u64, preferred: u64) -> u64
 }
 
 // A variable's value in a code, as an index.
-fn digit_at(code: u64, v: usize) -> usize
+pub fn digit_at(code: u64, v: usize) -> usize
     requires { ⌜ v < 16 ⌝ }
     ensures { λ r. ⌜ (r ≡ getD (digits 16 16 code) v 0) × (r < 16) ⌝ }
 {
@@ -197,7 +197,7 @@ fn summand(x: u16) -> u32
 // The cost of the full assignment to d variables with this code, from a table with sixteen costs for each variable.
 pub fn cost(code: u64, costs: &[u16], d: usize) -> u32
     requires { ⌜ (d ≤ 16) × (16 * d ≤ length (now costs)) ⌝ }
-    ensures { λ r. ⌜ r ≡ cost (rows d (now (costs .entry))) (digits 16 16 code) ⌝ }
+    ensures { λ r. ⌜ r ≡ cost (sixteens d (now (costs .entry))) (digits 16 16 code) ⌝ }
 {
     let mut sum: u32 = 0;
     let mut v = 0;

@@ -5,8 +5,8 @@ use Rattle.children.proofs.Numbers.{child-is}
 use Rattle.children.proofs.given.Statement.{statement}
 use Rattle.children.proofs.given.Tie as tie
 
-digit-requires : tie.Need-digit-requires
-digit-requires c κs = search needs
+digit-at-requires : tie.Need-digit-at-requires
+digit-at-requires c κs = search needs
 
 mul-place : tie.Need-mul-place
 mul-place c = search needs
@@ -40,7 +40,7 @@ wrapping-add-u32-requires c κs = search needs
 
 returns : tie.Need-returns
 returns c p n i f h =
-    let old = c .before .before .before .before .before .before .digit .ensures .0 in
+    let old = c .before .before .before .before .before .before .digit-at .ensures .0 in
     let was = c .before .before .before .price in
     let less = c .before .before .wrapping-sub-u32 in
     let will = c .before .price2 in
@@ -50,7 +50,7 @@ pub given-spec : {M : Type 1} → statement M
 given-spec =
     tie.close
     (tie.spec
-    digit-requires
+    digit-at-requires
     mul-place
     sub-place
     sub-t8

@@ -6,7 +6,7 @@ use borrow.Author.Tests.{not-true, not-false}
 use lib.ListN.{length}
 use Rattle.model.specs.Assignment.{Assignment}
 use Rattle.theory.specs.Words.{Words}
-use Rattle.theory.proofs.Agreement.{Filled}
+use Rattle.theory.specs.Nodes.{Filled}
 use Rattle.children.proofs.Walk.{is-none, assigned-is, filled-next}
 use Rattle.children.proofs.lowest_free.Statement.{statement}
 use Rattle.children.proofs.lowest_free.Tie as tie

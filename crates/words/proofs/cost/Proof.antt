@@ -6,14 +6,14 @@ use native.Mathlib.Nat.{zero-add, sub-zero}
 use borrow.Author.Needs.{needs}
 use Rattle.model.specs.Digits.{digits}
 use Rattle.model.specs.Order.{cost}
-use Rattle.theory.specs.Words.{rows}
+use Rattle.theory.specs.Words.{sixteens}
 use Rattle.theory.proofs.Digits.{digits-length}
 use Rattle.words.proofs.Loops.{costFrom, cost-step, cost-end}
 use Rattle.words.proofs.cost.Statement.{statement}
 use Rattle.words.proofs.cost.Tie as tie
 
 abbrev Inv-loop : tie.InvT-loop
-Inv-loop code costs d sum₀ v₀ sum v = (v ≤ d) × (sum ≤ 65535 * v) × (sum + costFrom d costs (digits 16 16 code) v ≡ cost (rows d costs) (digits 16 16 code))
+Inv-loop code costs d sum₀ v₀ sum v = (v ≤ d) × (sum ≤ 65535 * v) × (sum + costFrom d costs (digits 16 16 code) v ≡ cost (sixteens d costs) (digits 16 16 code))
 
 abbrev μ-loop : tie.MeasureT-loop
 μ-loop code costs d sum₀ v₀ sum v = d - v

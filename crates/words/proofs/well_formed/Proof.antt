@@ -1,6 +1,6 @@
 -- `words::well_formed` meets its contract: both tests together are the definition. Assumes nothing.
-use mathlib.Core.Path.{ap₂}
 use mathlib.Core.Bool.{_&&_}
+use mathlib.Core.Path.{ap₂}
 use borrow.Author.Needs.{needs}
 use lib.ListN.{take}
 use lib.Seq.{length-take-le}

@@ -1,5 +1,5 @@
 -- `offers::check_all` meets its contract. The loop's invariant: the check of all offers is the check of those behind place i, with the survivors so far. Assumes nothing.
-use mathlib.Core.Path.{_≡_, refl, ap, _∙_}
+use mathlib.Core.Path.{_≡_, refl, _∙_}
 use Prim.Native.Nat.{_-_, _≤_}
 use native.Mathlib.Omega.{arith}
 use borrow.Author.Needs.{needs}
