@@ -9,3 +9,8 @@ test:
 bench:
 	rt staticlib conflict
 	$(MAKE) -C bench run LIB=$(CURDIR)/target/staticlib/libconflict.a
+.PHONY: host
+# the archive for C programs, the host over it (target/host/leading_host), and their checks
+host:
+	rt staticlib listing
+	bash host/check.sh target/staticlib/liblisting.a
