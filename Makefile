@@ -1,4 +1,4 @@
-.PHONY: run prove test bench
+.PHONY: run prove test bench host
 # proves and builds the program `leading`, and runs it on the small plant
 run:
 	rt check leading
@@ -13,3 +13,7 @@ test:
 bench:
 	rt staticlib conflict
 	$(MAKE) -C bench run LIB=$(CURDIR)/target/staticlib/libconflict.a
+# the archive for C programs, the host over it (target/host/leading_host), and their checks
+host:
+	rt staticlib listing
+	bash host/check.sh target/staticlib/liblisting.a
