@@ -1,5 +1,6 @@
 // Bit fields of a lent sheet: the unsigned number that stands at a bit place, most significant bit first, or the word that
-// it runs past the end. A field of at most 16 bits is taken from the three bytes around its place.
+// it runs past the end. A field of at most 16 bits is taken from the three bytes around its place. The functions on a slice and
+// a place do the work; the reader further down holds both, and `three` goes through it with plain parameters.
 ghost use mathlib.Core.Path.{_≡_};
 ghost use Prim.Native.Nat.{_+_, _/_, _%_, _≤_, _<_, _^_};
 ghost use lib.ListN.{getD, drop};

@@ -20,7 +20,7 @@ use ghost.Atoms.{Atoms, sem}
 use contract.BorrowLft.{meet-⊑-right}
 use contract.Monad.{Fun, fact}
 use contract.Running.{givenOf, tables, tablesOf}
-use types.Kit.{Given, Item, ‵, raw, _⊛_, ⋆, some, later, _$_, _∵_, !, qed, by, move, keep, drop, use1, use2, use3, split, split3, join, pick, rewrite, fsplit, fjoin, suffices, frame, await, done}
+use types.Kit.{Given, ‵, raw, _⊛_, ⋆, some, later, _$_, _∵_, !, qed, by, move, keep, drop, use1, use2, use3, split, split3, join, pick, rewrite, fsplit, fjoin, suffices, frame, await, done}
 use types.Part.{agg}
 use types.Run.{look, init, forget, stop, from, load, addr, of-opd, and-then, no-more, assigns, land, returns, enter, alloc1, alloc0, params1, pass1, pass0, free1, free0}
 use sound.WpLaws.{FmC, fmOf, WpFn-mono}
@@ -28,7 +28,7 @@ use denote.RattleType.{owns}
 use denote.Laws.{Is, shows}
 use denote.Plain.{uint-vals, uint-tells, uint-makes}
 use denote.Builtin.{u8, usize}
-use denote.Ref.{RefT, NamedLft, MutRef, now}
+use denote.Ref.{RefT, now}
 use denote.Signature.{plain}
 use denote.Slice.{sliceVal, ShrSlice, slice-vals, shr-slice-tells, shr-slice-lawful, shr-slice-copy}
 use denote.Steps.{only, owned, peeks, heard, nothing}
@@ -46,8 +46,7 @@ use Rattle.model.specs.Sheet.{field}
 use Rattle.bits.specs.Field.{fieldOf}
 use Rattle.bits.specs.declared.Reader.{Reader}
 use Rattle.bits.specs.declared.Field.{Field}
-use Rattle.bits.specs.declared.Fields.{Fields}
-use Rattle.bits.proofs.Lent.{α, R, Local, Whole, Toks, Ref, Kept, Loan, lends, back}
+use Rattle.bits.proofs.Lent.{α, R, Whole, Toks, Ref, Loan, lends, back}
 use Rattle.bits.proofs.Reader as T
 use Rattle.bits.proofs.Reader.Laws as T′
 use Rattle.bits.proofs.Field as S
