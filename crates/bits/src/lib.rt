@@ -1,7 +1,8 @@
 // Bit fields of a lent sheet: the unsigned number that stands at a bit place, most significant bit first, or the word that
-// it runs past the end. A field of at most 16 bits is taken from the three bytes around its place.
+// it runs past the end. A field of at most 16 bits is taken from the three bytes around its place. The functions on a slice and
+// a place do the work; the reader further down holds both, and `three` goes through it with plain parameters.
 ghost use mathlib.Core.Path.{_≡_};
-ghost use Prim.Native.Nat.{_+_, _/_, _%_, _≤_, _<_};
+ghost use Prim.Native.Nat.{_+_, _/_, _%_, _≤_, _<_, _^_};
 ghost use lib.ListN.{getD, drop};
 ghost use Rattle.model.specs.Digits.{number};
 ghost use Rattle.model.specs.Sheet.{bitsAt, field};
@@ -59,5 +60,62 @@ pub fn field_at(sheet: &[u8], place: usize, w: usize) -> Field
         Field::Value(value(sheet, place, w))
     } else {
         Field::Past
+    }
+}
+
+// The bit reader: the lent sheet, and the bit place of the field that is taken next.
+pub struct Reader<'a> {
+    pub sheet: &'a [u8],
+    pub place: usize,
+}
+
+// A reader that stands over a sheet at a place.
+pub fn over<'a>(sheet: &'a [u8], place: usize) -> Reader<'a>
+    ensures { λ r. ⌜ (r .sheet ≡ sheet .entry) × (r .place ≡ place) ⌝ }
+{
+    Reader { sheet, place }
+}
+
+// Where a reader stands.
+pub fn place<'a>(r: Reader<'a>) -> usize
+    ensures { λ n. ⌜ n ≡ r .entry .place ⌝ }
+{
+    r.place
+}
+
+// Takes the field of w bits at the reader's place, and moves the reader on past it.
+pub fn take<'s, 'a>(r: &'s mut Reader<'a>, w: usize) -> Field
+    requires { ⌜ (w ≤ 16) × (now r .place + w < 2 ^ 64) ⌝ }
+    ensures { λ f. ⌜ (now (r .exit) .sheet ≡ now (r .entry) .sheet) × (now (r .exit) .place ≡ now (r .entry) .place + w)
+        × (fieldOf (now (r .entry) .place + w) f ≡ field (now (now (r .entry) .sheet)) w (now (r .entry) .place)) ⌝ }
+{
+    let place = r.place;
+    let f = field_at(r.sheet, place, w);
+    r.place = place + w;
+    f
+}
+
+// Three fields that stand one after another.
+pub struct Fields {
+    pub first: Field,
+    pub second: Field,
+    pub third: Field,
+}
+
+// The fields of a, b and c bits that stand one after another from a place on, each as if it were asked for alone.
+pub fn three(sheet: &[u8], place: usize, a: usize, b: usize, c: usize) -> Fields
+    requires { ⌜ (a ≤ 16) × (b ≤ 16) × (c ≤ 16) × (place + a + b + c < 2 ^ 64) ⌝ }
+    ensures { λ r. ⌜ (fieldOf (place + a) (r .first) ≡ field (now (sheet .entry)) a place)
+        × (fieldOf (place + a + b) (r .second) ≡ field (now (sheet .entry)) b (place + a))
+        × (fieldOf (place + a + b + c) (r .third) ≡ field (now (sheet .entry)) c (place + a + b)) ⌝ }
+{
+    let mut r = over(sheet, place);
+    let first = take(&mut r, a);
+    let second = take(&mut r, b);
+    let third = take(&mut r, c);
+    Fields {
+        first,
+        second,
+        third,
     }
 }

@@ -45,25 +45,20 @@ module _ (sheet domains : List ℕ) (place : ℕ) where
       sign-past h = on _ first (pass 10 _ (lt-ltb v (length domains) present) (halt _ h))
 
       module _ {s : ℕ} (second : field sheet 1 (place + 6) ≡ got s (place + 6 + 1)) where
-        pub value-past : {k : ℕ} → field sheet 4 (place + 7) ≡ refused k → readLiteral edition1 sheet domains place ≡ refused k
+        pub value-past : {k : ℕ} → field sheet 4 (place + 6 + 1) ≡ refused k → readLiteral edition1 sheet domains place ≡ refused k
         unfolding readLiteral
-        value-past h =
-            let e : place + 6 + 1 ≡ place + 7 = omega arith in
-            on _ first (pass 10 _ (lt-ltb v (length domains) present) (on _ second (halt _ (ap (field sheet 4) e ∙ h))))
+        value-past h = on _ first (pass 10 _ (lt-ltb v (length domains) present) (on _ second (halt _ h)))
 
-        module _ {x : ℕ} (third : field sheet 4 (place + 7) ≡ got x (place + 7 + 4)) where
+        module _ {x : ℕ} (third : field sheet 4 (place + 6 + 1) ≡ got x (place + 6 + 1 + 4)) where
           pub value-outside : getD domains v 0 ≤ x → readLiteral edition1 sheet domains place ≡ refused 11
           unfolding readLiteral
-          value-outside h =
-              let e : place + 6 + 1 ≡ place + 7 = omega arith in
-              on _ first (pass 10 _ (lt-ltb v (length domains) present) (on _ second (on _ (ap (field sheet 4) e ∙ third) (fail 11 _ (le-ltb x (getD domains v 0) h)))))
+          value-outside h = on _ first (pass 10 _ (lt-ltb v (length domains) present) (on _ second (on _ third (fail 11 _ (le-ltb x (getD domains v 0) h)))))
 
           pub literal-got : x < getD domains v 0 → readLiteral edition1 sheet domains place ≡ got (record { variable = v; sign = s; value = x }) (place + 11)
           unfolding readLiteral
           literal-got h =
-              let e : place + 6 + 1 ≡ place + 7 = omega arith in
-              let f : place + 7 + 4 ≡ place + 11 = omega arith in
-              on _ first (pass 10 _ (lt-ltb v (length domains) present) (on _ second (on _ (ap (field sheet 4) e ∙ third) (pass 11 _ (lt-ltb x (getD domains v 0) h) (rw f)))))
+              let e : place + 6 + 1 + 4 ≡ place + 11 = omega arith in
+              on _ first (pass 10 _ (lt-ltb v (length domains) present) (on _ second (on _ third (pass 11 _ (lt-ltb x (getD domains v 0) h) (rw e)))))
 
 -- the rule about decision variables
 pub decisions-none : (d : ℕ) → d < 1 → decisionsAllowed edition1 d ≡ false

@@ -138,17 +138,21 @@ fn literal(sheet: &[u8], place: usize, domains: &[u8]) -> Lit
     requires { ⌜ place < 1000000 ⌝ }
     ensures { λ r. ⌜ litOf (place + 11) r ≡ readLiteral edition1 (now (sheet .entry)) (now (domains .entry)) place ⌝ }
 {
-    let Field::Value(variable) = bits::field_at(sheet, place, 6) else {
+    let fields = bits::three(sheet, place, 6, 1, 4);
+    let first = fields.first;
+    let Field::Value(variable) = first else {
         return Lit::Refused(5);
     };
     let v = variable as usize;
     if v >= domains.len() {
         return Lit::Refused(10);
     }
-    let Field::Value(sign) = bits::field_at(sheet, place + 6, 1) else {
+    let second = fields.second;
+    let Field::Value(sign) = second else {
         return Lit::Refused(5);
     };
-    let Field::Value(value) = bits::field_at(sheet, place + 7, 4) else {
+    let third = fields.third;
+    let Field::Value(value) = third else {
         return Lit::Refused(5);
     };
     let x = value as u8;
