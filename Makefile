@@ -9,10 +9,11 @@ prove:
 # the whole gate
 test:
 	bash .ci/run
-# figures: ours against a plain and a same-design implementation in C
+# figures: ours against a plain and a same-design implementation in C, once all three were found to answer alike
 bench:
 	rt staticlib conflict
-	$(MAKE) -C bench run LIB=$(CURDIR)/target/staticlib/libconflict.a
+	rt staticlib listing
+	$(MAKE) -C bench check run LIB="$(CURDIR)/target/staticlib/libconflict.a $(CURDIR)/target/staticlib/liblisting.a"
 # the archive for C programs, the host over it (target/host/leading_host), and their checks
 host:
 	rt staticlib listing

@@ -16,7 +16,7 @@
 #include <string.h>
 #include <time.h>
 
-enum { ROUNDS_LEAST = 5, ROUNDS_MOST = 41, JOBS_MOST = 2 * IMPLEMENTATIONS };
+enum { ROUNDS_LEAST = 9, ROUNDS_MOST = 41, JOBS_MOST = 2 * IMPLEMENTATIONS };
 static const double BATCH = 0.4e-3; /* seconds that a sample shall take at least */
 static const double BUDGET = 0.1;   /* seconds for a job's samples, where it can be kept */
 
@@ -319,6 +319,8 @@ static const struct queued QUEUED[] = {
     {"queue-16", 16, 15, 12, 1, 4},
     {"queue-256", 256, 240, 208, 16, 48},
     {"queue-4096", 4096, 3840, 3584, 256, 512},
+    {"full-196", 196, 195, 196, 20, 180},
+    {"full-4096", 4096, 4095, 4096, 280, 700},
 };
 
 static void table_of_queues(void)
@@ -391,7 +393,7 @@ static void table_of_stores(void)
 struct whole {
     const char *name;
     struct settings settings;
-    size_t store;
+    size_t store; /* in entries; offered ones are those of make_conflict() */
 };
 
 static const struct whole WHOLE[] = {
@@ -402,6 +404,7 @@ static const struct whole WHOLE[] = {
     {"driveline-14a", {16, 0, 1000000}, 64}, {"driveline-14b", {16, 0, 1000000}, 64},
     {"driveline-16a", {16, 0, 1000000}, 64}, {"driveline-16b", {16, 0, 1000000}, 64},
     {"driveline-16c", {16, 0, 1000000}, 64}, {"queue-4096", {4096, 0, 0}, 64},
+    {"full-4096", {4096, 0, 0}, 64},         {"store-4096", {64, 4096, 1000000}, 4096},
     {"learn-4096", {4096, 0, 1000000}, 4096},
 };
 
@@ -426,6 +429,7 @@ static void label_run(const struct job *jobs, const char *name, char *label)
 static void table_of_runs(void)
 {
     struct figures total = {{0}, 0, 0, 0};
+    double least = 0, most = 0;
     heading("(d) Whole runs: sheet, ending, listed (trials)", "run", "us");
     for (size_t i = 0; i < sizeof WHOLE / sizeof *WHOLE; i++) {
         const struct whole *w = &WHOLE[i];
@@ -434,11 +438,18 @@ static void table_of_runs(void)
         struct samples s;
         char label[64];
         for_each(jobs, job);
+        offer_conflicts((uint32_t)w->settings.held);
         label_run(jobs, w->name, label);
         take_samples(jobs, IMPLEMENTATIONS, &s);
         struct figures f = figures_of(&s, 0, -1, 1e6);
-        for (int k = 0; k < IMPLEMENTATIONS; k++)
-            total.value[k] += strncmp(w->name, "driveline", 9) ? 0 : f.value[k];
+        if (strncmp(w->name, "driveline", 9) == 0) {
+            for (int k = 0; k < IMPLEMENTATIONS; k++)
+                total.value[k] += f.value[k];
+            if (least == 0 || f.plain_ours < least)
+                least = f.plain_ours;
+            if (f.ours_same > most)
+                most = f.ours_same;
+        }
         row(label, &f);
         free(job.sheet.at);
     }
@@ -446,6 +457,45 @@ static void table_of_runs(void)
     total.ours_same = total.value[OURS] / total.value[SAME];
     total.plain_same = total.value[PLAIN] / total.value[SAME];
     row("all drivelines", &total);
+    if (most > 0)
+        printf("drivelines: plain/ours at least %.2f, ours/same at most %.2f\n", least, most);
+}
+
+/* ---- (e) a learned conflict ---- */
+
+enum { LEARNED = 64 };
+
+struct sieved {
+    const char *name;
+    size_t entries; /* in the queue when the first conflict is learned */
+    uint32_t k;
+};
+
+static const struct sieved SIEVED[] = {{"sieve-196", 196, 47}, {"sieve-4096", 4096, 308}};
+
+/* A run that learns 64 conflicts with members of its own, less the same run
+ * with no store, where the same tests are made and nothing is learned. */
+static void table_of_learning(void)
+{
+    heading("(e) A learned conflict: reduction, store, sieve of the queue", "queue", "us");
+    for (size_t i = 0; i < sizeof SIEVED / sizeof *SIEVED; i++) {
+        const struct sieved *w = &SIEVED[i];
+        struct job jobs[JOBS_MOST];
+        struct job job = {NULL, sheet_named(w->name), {w->k, 0, 1000000}, w->entries, LEARNED, 0, 0};
+        struct samples s;
+        char label[64];
+        for_each(jobs, job);
+        run(&jobs[PLAIN]);
+        if (lent.result[3] != LEARNED)
+            give_up("other than 64 learned", w->name);
+        job.store = 0;
+        for_each(jobs + IMPLEMENTATIONS, job);
+        take_samples(jobs, JOBS_MOST, &s);
+        struct figures f = figures_of(&s, 0, IMPLEMENTATIONS, 1e6 / LEARNED);
+        snprintf(label, sizeof label, "%zu to %zu entries", w->entries, w->entries - LEARNED);
+        row(label, &f);
+        free(job.sheet.at);
+    }
 }
 
 int main(int count, char **words)
@@ -464,5 +514,6 @@ int main(int count, char **words)
     table_of_queues();
     table_of_stores();
     table_of_runs();
+    table_of_learning();
     return 0;
 }

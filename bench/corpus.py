@@ -189,6 +189,33 @@ def queue_plant(spread):
     return Plant(tuple(costs + [(0,)] * (16 - spread)), (), ())
 
 
+def full_plant(sizes, forbidden=0):
+    """A queue that stays full. Parts of these sizes, the first the cheapest to
+    vary, then one of two states whose second is dearer than all of them
+    together, and parts of one state up to 16. Once the states are listed that
+    differ in all parts but the last of `sizes`, each combination of their
+    values has one node in the queue: the product of the sizes, and one more
+    after the part of two states was given its values. Of the combinations that
+    come next, `forbidden` have a clause each; any other value of any one part
+    may be among those left, so each is a conflict with all parts of `sizes`."""
+    spread = [1]
+    for size in sizes:
+        spread.append(spread[-1] * size)
+    costs = [tuple(step * x for x in range(size)) for step, size in zip(spread, sizes)]
+    costs += [(0, spread[-1])] + [(0,)] * (15 - len(sizes))
+    combinations = (
+        [n // spread[v] % size for v, size in enumerate(sizes)]
+        for n in range(spread[-2] + 1, spread[-1])
+    )
+    bad = [own for own in combinations if sum(own) % 3][:forbidden]
+    clauses = tuple(tuple(Literal(v, UNEQUAL, x) for v, x in enumerate(own)) for own in bad)
+    return Plant(tuple(costs), (), clauses)
+
+
+FULL_SIZES = {196: (13, 15), 4096: (3, 7, 13, 15)}
+FORBIDDEN = 64
+
+
 def store_plant():
     """Variables 4, 5 and 6 spread, each with its last state dear and
     forbidden; those before have a dear second state, and the last 15 dear
@@ -233,6 +260,12 @@ def corpus():
     for spread in (1, 2, 3):
         text = f"no clauses; parts of 16 states: {spread}, the rest of one"
         yield f"queue-{16 ** spread}", queue_plant(spread), text
+    for entries, sizes in FULL_SIZES.items():
+        text = f"no clauses; a run holds {entries - 1} and {entries} entries in turn"
+        yield f"full-{entries}", full_plant(sizes), text
+    for entries, sizes in FULL_SIZES.items():
+        text = f"the same with {FORBIDDEN} forbidden combinations, each a conflict to learn"
+        yield f"sieve-{entries}", full_plant(sizes, FORBIDDEN), text
     yield "store-4096", store_plant(), "three forbidden states; 4,096 conflicts are offered"
     yield "learn-4096", learning_plant(), "sums modulo 16; a run learns 4,096 conflicts"
 

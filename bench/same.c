@@ -415,8 +415,6 @@ static size_t sieve(uint64_t *queue, size_t n, const uint64_t *conflict)
 
 /* ---- listing ---- */
 
-enum { CHILDREN_MOST = DECISIONS_MOST * VALUES_MOST };
-
 struct run {
     struct search search; /* with the trials and the limit of the run */
     uint8_t cheapest[DECISIONS_MOST];
@@ -424,16 +422,15 @@ struct run {
     uint32_t *costs;
     size_t queued, queue_entries, stored, store_entries;
     uint32_t k, listed, tested, learned, unkept;
-    size_t child_count;
-    struct entry children[CHILDREN_MOST];
 };
 
+/* To the end, without a branch for each entry. */
 static bool manifests_a_stored(const struct run *r, struct entry e)
 {
+    bool any = false;
     for (size_t i = 0; i < r->stored; i++)
-        if (manifests(e, r->store[2 * i], r->store[2 * i + 1]))
-            return true;
-    return false;
+        any |= manifests(e, r->store[2 * i], r->store[2 * i + 1]);
+    return any;
 }
 
 /* The place of the first stored conflict that is not resolved, or `stored`. */
@@ -472,45 +469,47 @@ static struct entry root(struct run *r)
     return e;
 }
 
-/* Adds a child unless it manifests a stored conflict. */
-static void add_child(struct run *r, struct entry e, size_t v, size_t x)
+/* Step 6 for one child: puts it into the queue, unless it manifests a stored
+ * conflict. */
+static enum ending put_child(struct run *r, struct entry e, size_t v, size_t x)
 {
     struct entry child = given(r, e, v, x);
-    if (!manifests_a_stored(r, child))
-        r->children[r->child_count++] = child;
+    if (manifests_a_stored(r, child))
+        return GOING_ON;
+    if (r->queued == r->queue_entries)
+        return FULL;
+    push(r->queue, r->queued++, child);
+    return GOING_ON;
+}
+
+/* The variable at each value but one. */
+static enum ending put_values(struct run *r, struct entry e, size_t v, size_t but)
+{
+    for (size_t x = 0; x < r->search.tables->sizes[v]; x++)
+        if (x != but && put_child(r, e, v, x) == FULL)
+            return FULL;
+    return GOING_ON;
 }
 
 /* Step 4. */
-static void conflict_children(struct run *r, struct entry e, const uint64_t *conflict)
+static enum ending put_resolving(struct run *r, struct entry e, const uint64_t *conflict)
 {
     uint64_t open = conflict[0] & ~mask_of(e);
     while (open) {
         size_t v = (size_t)__builtin_clzll(open);
         size_t own = conflict[1] >> (60 - 4 * v) & 15;
-        for (size_t x = 0; x < r->search.tables->sizes[v]; x++)
-            if (x != own)
-                add_child(r, e, v, x);
+        if (put_values(r, e, v, own) == FULL)
+            return FULL;
         e = given(r, e, v, own);
         open ^= bit(v);
     }
+    return GOING_ON;
 }
 
 /* Step 5. */
-static void value_children(struct run *r, struct entry e)
+static enum ending put_branching(struct run *r, struct entry e)
 {
-    size_t v = (size_t)__builtin_clzll(~mask_of(e));
-    for (size_t x = 0; x < r->search.tables->sizes[v]; x++)
-        add_child(r, e, v, x);
-}
-
-/* Step 6. */
-static enum ending put_in(struct run *r)
-{
-    if (r->child_count > r->queue_entries - r->queued)
-        return FULL;
-    for (size_t i = 0; i < r->child_count; i++)
-        push(r->queue, r->queued++, r->children[i]);
-    return GOING_ON;
+    return put_values(r, e, (size_t)__builtin_clzll(~mask_of(e)), VALUES_MOST);
 }
 
 /* Step 7 on an inconsistent full node, the store not full. */
@@ -553,14 +552,11 @@ static enum ending test_full(struct run *r, struct entry e)
 static enum ending take_node(struct run *r, struct entry e)
 {
     size_t i = first_unresolved(r, e);
-    r->child_count = 0;
     if (i < r->stored)
-        conflict_children(r, e, &r->store[2 * i]);
-    else if ((size_t)__builtin_popcountll(mask_of(e)) < r->search.tables->decisions)
-        value_children(r, e);
-    else
-        return test_full(r, e);
-    return put_in(r);
+        return put_resolving(r, e, &r->store[2 * i]);
+    if ((size_t)__builtin_popcountll(mask_of(e)) < r->search.tables->decisions)
+        return put_branching(r, e);
+    return test_full(r, e);
 }
 
 /* Step 1: whether all offered entries have been checked. */
