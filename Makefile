@@ -1,4 +1,4 @@
-.PHONY: run prove test bench host
+.PHONY: run prove test bench host scale
 # proves and builds the program `leading`, and runs it on the small plant
 run:
 	rt check leading
@@ -18,3 +18,7 @@ bench:
 host:
 	rt staticlib listing
 	bash host/check.sh target/staticlib/liblisting.a
+# the archive against the outside lister at scale, some minutes; the gate has a short run of it
+scale:
+	rt staticlib listing
+	bash outside/scale.sh target/staticlib/liblisting.a

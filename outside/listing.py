@@ -218,11 +218,11 @@ def close(run, ending, settings):
     )
 
 
-def listing(sheet, settings):
+def listing(sheet, settings, kind=Run):
     """The listing call; raises a refusal. The lent buffers stay as they were,
     and the result carries what they hold afterwards."""
     check_host(settings)
-    run = Run(read(sheet), settings)
+    run = kind(read(sheet), settings)
     words = settings.store[: 2 * settings.held]
     try:
         ending = run.steps(list(zip(words[0::2], words[1::2])))
@@ -231,11 +231,11 @@ def listing(sheet, settings):
     return close(run, ending, settings)
 
 
-def export(sheet, settings, result_words):
+def export(sheet, settings, result_words, kind=Run):
     """The export: the refusal's number, or 0 with the lent lists rewritten."""
     try:
         check_host(settings, len(result_words))
-        result = listing(sheet, settings)
+        result = listing(sheet, settings, kind)
     except Refusal as refusal:
         return refusal.number
     for name in ("codes", "costs", "queue", "store"):

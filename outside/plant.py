@@ -1,7 +1,7 @@
 """Plant sheets: from bytes to a Plant, or a refusal 5 to 13, and back."""
 
 from dataclasses import dataclass
-from functools import cached_property
+from functools import cached_property, lru_cache
 from typing import NamedTuple
 
 EDITION = 1
@@ -90,6 +90,7 @@ def read_end(reader):
         raise Refusal(13)
 
 
+@lru_cache(maxsize=256)
 def read(sheet):
     """The sheet's plant; raises the first refusal in reading order."""
     reader = BitReader(sheet)

@@ -4,6 +4,7 @@ Nothing here goes through the consistency test: consistency is decided by
 running over all values of all variables.
 """
 
+from functools import lru_cache
 from itertools import product
 from math import prod
 
@@ -18,6 +19,7 @@ def holds(clause, setting):
     return False
 
 
+@lru_cache(maxsize=256)
 def consistent_states(plant):
     """All full consistent assignments, in no order that matters."""
     states = []
@@ -33,6 +35,7 @@ def cost_of_code(plant, code):
     return sum(costs[int(digit, 16)] for costs, digit in zip(plant.costs, digits))
 
 
+@lru_cache(maxsize=256)
 def whole_set(plant):
     """Pairs of cost and code, in the order cost, then code."""
     codes = [to_words(state)[1] for state in consistent_states(plant)]

@@ -1,0 +1,257 @@
+"""Random listing cases: whole and damaged sheets, fair and extreme settings,
+junk in every lent buffer, offers of every kind."""
+
+from array import array
+from dataclasses import dataclass
+from math import prod
+from typing import NamedTuple
+
+from listing import Settings
+from plant import Refusal, encode, fields, pack, read
+from search import to_words
+from shapes import nogood_plant, random_sizes, random_words, shaped
+from shapes import small_random_plant, spoil
+from vectors import end_damage, flipped, header_damage, longest_plant, tight_plant
+
+U32_MOST = 2**32 - 1
+ENTRIES_MOST = 4096
+
+
+class Case(NamedTuple):
+    sheet: bytes
+    settings: Settings
+    result: list  # the result words as lent
+    damaged: bool = False
+
+
+@dataclass
+class Shape:
+    """A case's numbers: the buffers in words, the rest as it is given."""
+
+    k: int
+    codes: int
+    costs: int
+    queue: int
+    store: int
+    result: int
+    held: int
+    limit: int
+
+
+# ---- plants ----------------------------------------------------------------
+
+
+def wide_plant(rng):
+    """The borders of D and S, and clauses of every length."""
+    decisions, states = rng.choice([1, 2, 15, 16]), rng.choice([0, 1, 31, 32])
+    sizes = random_sizes(rng, decisions + states, rng.choice([1, 2, 3, 16]))
+    lengths = [rng.randint(1, 15) for _ in range(rng.choice([0, 1, 7, 40]))]
+    lengths += [0] * (rng.random() < 0.1)
+    return shaped(rng, sizes, decisions, lengths, rng.choice(["zero", "ties", "wide", "top"]))
+
+
+def crowded_plant(rng):
+    """Few variables and many clauses, up to the most."""
+    sizes = [rng.randint(2, 3) for _ in range(rng.randint(4, 6))]
+    lengths = [rng.randint(4, 15) for _ in range(rng.choice([60, 150, 511, 512]))]
+    return shaped(rng, sizes, rng.randint(2, len(sizes)), lengths, "small")
+
+
+def tied_plant(rng):
+    """Many states of few costs."""
+    decisions = rng.randint(5, 9)
+    lengths = [rng.randint(2, 4) for _ in range(rng.randint(0, 6))]
+    sizes = [2] * decisions + [2] * rng.randint(0, 1)
+    return shaped(rng, sizes, decisions, lengths, rng.choice(["zero", "ties"]))
+
+
+def long_list_plant(rng):
+    """Some thousands of states, most of them fitting."""
+    decisions = rng.randint(11, 13)
+    lengths = [rng.randint(4, 6) for _ in range(rng.randint(0, 2))]
+    return shaped(rng, [2] * decisions, decisions, lengths, "zero")
+
+
+PLANTS = [
+    (30, small_random_plant),
+    (20, nogood_plant),
+    (18, tight_plant),
+    (14, tied_plant),
+    (12, wide_plant),
+    (3, crowded_plant),
+    (1, long_list_plant),
+    (0.2, longest_plant),
+]
+
+
+def any_plant(rng, plants=PLANTS):
+    weights, makers = zip(*plants)
+    return rng.choices(makers, weights)[0](rng)
+
+
+# ---- damage ----------------------------------------------------------------
+
+
+def other_field(rng, plant):
+    listed = fields(plant)
+    place = rng.randrange(len(listed)) if rng.random() < 0.7 else rng.randrange(4)
+    name, width, _ = listed[place]
+    listed[place] = name, width, rng.getrandbits(width)
+    return pack(listed)
+
+
+def flips(rng, plant):
+    sheet = encode(plant)
+    for _ in range(rng.randint(1, 3)):
+        sheet = flipped(rng, sheet)
+    return sheet
+
+
+def cut(rng, plant):
+    sheet = encode(plant)
+    return sheet[: rng.choice([len(sheet) - 1, rng.randrange(len(sheet))])]
+
+
+def extended(rng, plant):
+    length = rng.choice([1, 2, 9, 200, 11_357])
+    return encode(plant) + rng.choice([bytes(length), rng.randbytes(length)])
+
+
+def noise(rng, plant):
+    return rng.choice([b"", b"\1", b"\1\x10"]) + rng.randbytes(rng.randrange(60))
+
+
+def quiet_damage(rng, plant):
+    """A flipped bit that leaves the sheet one that can be read."""
+    sheet = encode(plant)
+    for _ in range(8):
+        other = flipped(rng, sheet)
+        try:
+            read(other)
+            return other
+        except Refusal:
+            continue
+    return sheet + b"\0"
+
+
+DAMAGE = [
+    quiet_damage,
+    quiet_damage,
+    quiet_damage,
+    other_field,
+    other_field,
+    flips,
+    flips,
+    cut,
+    extended,
+    noise,
+    lambda rng, plant: rng.choice(end_damage(plant)),
+    lambda rng, plant: rng.choice(header_damage(plant)),
+]
+
+
+# ---- settings --------------------------------------------------------------
+
+
+def any_limit(rng):
+    few = [0, 1, rng.randrange(30), rng.randrange(300), rng.randrange(3000)]
+    return rng.choice(few + [10**6, 10**6, U32_MOST])
+
+
+def fair_shape(rng, plant):
+    """Nothing in it is refused."""
+    states = min(prod(plant.sizes[: plant.decisions]), ENTRIES_MOST)
+    k = rng.choice([1, 2, 3, 5, 16, 16, 40, 40, 300, 4096])
+    queue = 2 * rng.choice([1, 2, 3, 5, 9, 20, 64, states, states, 4096])
+    store = 2 * rng.choice([0, 1, 2, 3, 8, 20, 64, 64, 4096])
+    held = min(store // 2, rng.choice([0, 0, 1, 2, 5, 20, store // 2]))
+    codes, costs = (k + rng.choice([0, 0, 1, 7]) for _ in range(2))
+    return Shape(k, codes, costs, queue, store, rng.choice([6, 7, 8]), held, any_limit(rng))
+
+
+def make_extreme(rng, shape):
+    """One number just at or beyond its border."""
+    entries, k = shape.store // 2, min(shape.k, ENTRIES_MOST)
+    choices = [("k", n) for n in (0, 4096, 4097, 65536, U32_MOST)]
+    choices += [("codes", max(k - 1, 0)), ("codes", rng.randrange(k + 1))]
+    choices += [("costs", max(k - 1, 0)), ("costs", rng.randrange(k + 1))]
+    choices += [("result", n) for n in range(9)]
+    choices += [("queue", n) for n in (0, 1, 2, 3, 127, 8191, 8192, 8193, 8194)]
+    choices += [("store", n) for n in (0, 1, 2, 3, 127, 8191, 8192, 8193, 8194)]
+    choices += [("held", n) for n in (entries, entries + 1, 2 * entries + 1, 4097)]
+    choices += [("held", n) for n in (2**32, 2**63, 2**63 + 1, 2**64 - 1)]
+    setattr(shape, *rng.choice(choices))
+
+
+# ---- what the lent buffers hold --------------------------------------------
+
+
+def junk(rng, words, width):
+    length = words * width
+    kind = rng.randrange(6)
+    if kind == 0:
+        data = bytes(length)
+    elif kind == 1:
+        data = b"\xff" * length
+    elif kind == 2:
+        data = (b"\1" + bytes(7)) * words
+    else:
+        data = rng.randbytes(length)
+    return array("Q" if width == 8 else "I", data[:length]).tolist()
+
+
+def broken_clause(rng, plant):
+    """An assignment under which a clause is false, where decisions decide it."""
+    whole = [c for c in plant.clauses if all(v < plant.decisions for v, _, _ in c)]
+    assignment = [None] * plant.decisions
+    for variable, sign, value in rng.choice(whole) if whole else ():
+        others = [v for v in range(plant.sizes[variable]) if v != value]
+        assignment[variable] = value if sign or not others else rng.choice(others)
+    return to_words(assignment)
+
+
+def any_offer(rng, plant):
+    """True, false, ill formed, junk or empty."""
+    kind = rng.randrange(8)
+    if kind < 3:
+        return broken_clause(rng, plant)
+    words = random_words(rng, plant, rng.choice([0.3, 0.7, 1.0]))
+    if kind == 3:
+        return spoil(rng, plant, words)
+    if kind == 4:
+        return rng.choice([(0, 0), (rng.getrandbits(64), rng.getrandbits(64)), (2**63, 0)])
+    return words
+
+
+def put_offers(settings, offers):
+    room = min(settings.held, len(settings.store) // 2)
+    words = [word for offer in offers[:room] for word in offer]
+    settings.store[: len(words)] = words
+
+
+def lend(rng, shape):
+    """Buffers of these sizes, all junk."""
+    return Settings(
+        shape.k,
+        junk(rng, shape.codes, 8),
+        junk(rng, shape.costs, 4),
+        junk(rng, shape.queue, 8),
+        junk(rng, shape.store, 8),
+        shape.held,
+        shape.limit,
+    )
+
+
+def any_case(rng):
+    plant = any_plant(rng)
+    shape = fair_shape(rng, plant)
+    if rng.random() < 0.2:
+        for _ in range(rng.randint(1, 2)):
+            make_extreme(rng, shape)
+    damaged = rng.random() < 0.3
+    sheet = rng.choice(DAMAGE)(rng, plant) if damaged else encode(plant)
+    settings = lend(rng, shape)
+    offers = [any_offer(rng, plant) for _ in range(min(shape.held, 30))]
+    if rng.random() < 0.9:
+        put_offers(settings, offers)
+    return Case(sheet, settings, junk(rng, shape.result, 4), damaged)
