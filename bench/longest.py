@@ -8,9 +8,9 @@ from random import Random
 
 sys.dont_write_bytecode = True
 sys.path.insert(0, os.path.join(os.path.dirname(os.path.abspath(__file__)), "..", "outside"))
-import vectors  # noqa: E402
+from sheet_cases import longest_plant, sheet_bytes  # noqa: E402
 from plant import encode  # noqa: E402
 
 copies = int(sys.argv[1])
-sheet = encode(vectors.longest_plant(Random(101))) + b"\0"
-sys.stdout.buffer.write(copies.to_bytes(2, "big") + vectors.sheet_bytes(sheet) * copies)
+sheet = encode(longest_plant(Random(101))) + b"\0"
+sys.stdout.buffer.write(copies.to_bytes(2, "big") + sheet_bytes(sheet) * copies)

@@ -11,7 +11,8 @@ from plant import Refusal, encode, fields, pack, read
 from search import to_words
 from shapes import nogood_plant, random_sizes, random_words, shaped
 from shapes import small_random_plant, spoil
-from vectors import end_damage, flipped, header_damage, longest_plant, tight_plant
+from sheet_cases import end_damage, flipped, header_damage, longest_plant
+from test_cases import tight_plant
 
 U32_MOST = 2**32 - 1
 ENTRIES_MOST = 4096

@@ -23,7 +23,7 @@ from listing import ENDINGS, Result, Run, Settings, export
 from plant import encode, read
 from search import Meter
 from shapes import nogood_plant, random_words, small_random_plant
-from vectors import tight_plant
+from test_cases import tight_plant
 from whole import begins, check_demand3, check_rest, whole_set
 
 WORK_MOST = 300_000

@@ -9,6 +9,9 @@ from random import Random
 sys.dont_write_bytecode = True
 
 import listing as listing_module
+import listing_cases
+import sheet_cases
+import test_cases
 import vectors
 from listing import Settings, export, leading, listing
 from plant import Refusal, encode, fields, pack, read
@@ -55,8 +58,8 @@ class Table(unittest.TestCase):
         return result
 
     def test_sheet(self):
-        self.assertEqual(read(SMALL), vectors.SMALL_PLANT)
-        self.assertEqual(encode(vectors.SMALL_PLANT), SMALL)
+        self.assertEqual(read(SMALL), sheet_cases.SMALL_PLANT)
+        self.assertEqual(encode(sheet_cases.SMALL_PLANT), SMALL)
 
     def test_p1_to_p3(self):
         last = "all 3 tested 4 learned 1 unkept 0 trials 15\n"
@@ -82,13 +85,13 @@ class Table(unittest.TestCase):
         self.assertEqual([3 << 62, 0, 0], result.store[:3])
 
     def test_p8_and_p9(self):
-        sheet = encode(vectors.SMALL_PLANT_EMPTY_CLAUSE)
+        sheet = encode(sheet_cases.SMALL_PLANT_EMPTY_CLAUSE)
         self.check("all 0 1 1 0 0", [], sheet)
         self.check("all 0 4 0 4 0", [], sheet, store=0)
 
     def test_p10_and_p11(self):
         for decisions in (0, 17):
-            sheet = vectors.with_field(vectors.SMALL_PLANT, "D", decisions)
+            sheet = sheet_cases.with_field(sheet_cases.SMALL_PLANT, "D", decisions)
             self.assertEqual("refused 7\n", leading(sheet))
         self.assertEqual("refused 12\n", leading(SMALL[:-1] + b"\1\0"))
 
@@ -99,7 +102,7 @@ class Sheets(unittest.TestCase):
         for _ in range(100):
             plant = small_random_plant(rng)
             self.assertEqual(plant, read(encode(plant)))
-        longest = vectors.longest_plant(rng)
+        longest = sheet_cases.longest_plant(rng)
         self.assertEqual(11356, len(encode(longest)))
         self.assertEqual(longest, read(encode(longest)))
 
@@ -109,7 +112,7 @@ class Sheets(unittest.TestCase):
 
     def test_past_the_end_first(self):
         """A wrong field is refused as the last one, and cut short it is 5."""
-        listed = fields(vectors.SMALL_PLANT)
+        listed = fields(sheet_cases.SMALL_PLANT)
         bad = {"edition": (2, 6), "D": (0, 7), "S": (33, 8), "C": (513, 9)}
         bad.update(variable=(3, 10), value=(2, 11))
         for place, (name, width, _) in enumerate(listed):
@@ -287,10 +290,10 @@ class Impostors(unittest.TestCase):
     def complaint(self, **changes):
         settings = set_up(k=5, queue=8, store=4)
         result = listing(SMALL, settings)
-        self.assertEqual([], check_demand3(result, vectors.SMALL_PLANT, settings))
+        self.assertEqual([], check_demand3(result, sheet_cases.SMALL_PLANT, settings))
         for name, change in changes.items():
             change(getattr(result, name)) if callable(change) else setattr(result, name, change)
-        return check_demand3(result, vectors.SMALL_PLANT, settings)
+        return check_demand3(result, sheet_cases.SMALL_PLANT, settings)
 
     def test_complaints(self):
         for changes in [
@@ -340,12 +343,12 @@ class Stream:
 
     def call(self):
         kind = self.number(1)
-        return vectors.Call(kind, self.sheet(), *map(self.number, (8, 8, 4)))
+        return test_cases.Call(kind, self.sheet(), *map(self.number, (8, 8, 4)))
 
     def run(self):
         lent = self.sheet(), *map(self.number, (4, 2, 2, 2, 2, 2, 4))
         given = tuple(self.number(8) for _ in range(self.number(2)))
-        return vectors.Run(*lent, given)
+        return listing_cases.Run(*lent, given)
 
 
 class Vectors(unittest.TestCase):
@@ -360,9 +363,9 @@ class Vectors(unittest.TestCase):
 
     def test_listings(self):
         seen = set()
-        for run in vectors.listing_cases():
+        for run in listing_cases.listing_cases():
             self.assertLessEqual(len(run.given), run.store)
-            settings = vectors.settings_of(run)
+            settings = listing_cases.settings_of(run)
             number = refusal_of(listing, run.sheet, settings)
             seen.add(number)
             plant = small_space(run)
@@ -375,13 +378,13 @@ class Vectors(unittest.TestCase):
         self.assertLessEqual({("enough", False), ("all", False), ("full", False)}, seen)
 
     def test_sheets(self):
-        cases = vectors.sheet_cases()
+        cases = sheet_cases.sheet_cases()
         numbers = {refusal_of(read, sheet) for sheet in cases}
         self.assertEqual({None, *range(5, 14)}, numbers)
         self.assertLessEqual({0, 11355, 11356, 11357}, set(map(len, cases)))
 
     def test_calls(self):
-        lines = {vectors.call_line(call).split()[0] for call in vectors.test_cases()}
+        lines = {test_cases.call_line(call).split()[0] for call in test_cases.test_cases()}
         names = {"refused", "consistent", "inconsistent", "spent", "none", "conflict"}
         self.assertEqual(names, lines)
 

@@ -1,0 +1,107 @@
+/* Part of same.c: the queue as a heap, and what is asked of a stored conflict. */
+
+/* ---- queue ---- */
+
+/* A node: the best state's cost above the mask's sixteen bits, and its code. */
+struct entry {
+    uint64_t key, code;
+};
+
+static uint64_t mask_of(struct entry e)
+{
+    return e.key << 48;
+}
+
+static uint64_t cost_of(struct entry e)
+{
+    return e.key >> 16;
+}
+
+static bool comes_before(struct entry a, struct entry b)
+{
+    uint64_t x = cost_of(a), y = cost_of(b);
+    return (x < y) | ((x == y) & (a.code < b.code));
+}
+
+static struct entry entry_at(const uint64_t *queue, size_t i)
+{
+    return (struct entry){queue[2 * i], queue[2 * i + 1]};
+}
+
+static void put(uint64_t *queue, size_t i, struct entry e)
+{
+    queue[2 * i] = e.key;
+    queue[2 * i + 1] = e.code;
+}
+
+/* Puts the entry at place i or below it, in a heap of n entries. */
+static void sift_down(uint64_t *queue, size_t n, size_t i, struct entry e)
+{
+    while (2 * i + 1 < n) {
+        size_t c = 2 * i + 1;
+        if (c + 1 < n)
+            c += comes_before(entry_at(queue, c + 1), entry_at(queue, c));
+        struct entry lesser = entry_at(queue, c);
+        if (!comes_before(lesser, e))
+            break;
+        put(queue, i, lesser);
+        i = c;
+    }
+    put(queue, i, e);
+}
+
+/* Adds the entry to a heap of n entries. */
+static void push(uint64_t *queue, size_t n, struct entry e)
+{
+    size_t i = n;
+    while (i > 0) {
+        struct entry parent = entry_at(queue, (i - 1) / 2);
+        if (!comes_before(e, parent))
+            break;
+        put(queue, i, parent);
+        i = (i - 1) / 2;
+    }
+    put(queue, i, e);
+}
+
+/* Takes the first entry out of a heap of n entries. */
+static struct entry pop(uint64_t *queue, size_t n)
+{
+    struct entry first = entry_at(queue, 0);
+    if (n > 1)
+        sift_down(queue, n - 1, 0, entry_at(queue, n - 1));
+    return first;
+}
+
+/* Puts any n entries into the heap's order (Floyd's way). */
+static void rebuild(uint64_t *queue, size_t n)
+{
+    for (size_t i = n / 2; i-- > 0;)
+        sift_down(queue, n, i, entry_at(queue, i));
+}
+
+/* ---- store ---- */
+
+/* The code's nibbles at unassigned variables never count: the masks see to it. */
+static bool manifests(struct entry e, uint64_t mask, uint64_t values)
+{
+    return !(mask & ~mask_of(e)) & !((e.code ^ values) & widen(mask));
+}
+
+static bool resolves(struct entry e, uint64_t mask, uint64_t values)
+{
+    return ((e.code ^ values) & widen(mask & mask_of(e))) != 0;
+}
+
+/* Keeps the entries that do not manifest the conflict; how many these are. */
+static size_t sieve(uint64_t *queue, size_t n, const uint64_t *conflict)
+{
+    size_t kept = 0;
+    for (size_t i = 0; i < n; i++) {
+        struct entry e = entry_at(queue, i);
+        if (!manifests(e, conflict[0], conflict[1]))
+            put(queue, kept++, e);
+    }
+    rebuild(queue, kept);
+    return kept;
+}

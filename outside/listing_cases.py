@@ -1,0 +1,247 @@
+"""Fixed listings for a gate."""
+
+from functools import lru_cache
+from random import Random
+from typing import NamedTuple
+
+from listing import Settings, listing
+from plant import Literal, Plant, Refusal, encode
+from shapes import nogood_plant, random_words, shaped, small_random_plant, spoil
+from sheet_cases import (
+    LIMIT_MOST,
+    SMALL_PLANT,
+    SMALL_PLANT_EMPTY_CLAUSE,
+    end_damage,
+    fnv,
+    header_damage,
+    literal_damage,
+    longest_plant,
+    sheet_bytes,
+    with_field,
+)
+from test_cases import tight_plant
+
+
+class Run(NamedTuple):
+    """A listing; `given` are the words the store begins with."""
+
+    sheet: bytes
+    k: int = 16
+    codes: int = 16
+    costs: int = 16
+    queue: int = 128
+    store: int = 32
+    held: int = 0
+    limit: int = 1_000_000
+    given: tuple = ()
+
+
+def settings_of(run):
+    """The lent buffers with the junk the format names."""
+    store = [0x4444444444444444 + i for i in range(run.store)]
+    store[: len(run.given)] = run.given
+    return Settings(
+        run.k,
+        [0x1111111111111111 + i for i in range(run.codes)],
+        [0x22222222 + i for i in range(run.costs)],
+        [0x3333333333333333 + i for i in range(run.queue)],
+        store,
+        run.held,
+        run.limit,
+    )
+
+
+def answer_run(run):
+    return listing(run.sheet, settings_of(run))
+
+
+def offering(run, offers):
+    """The run with these entries offered, in a store that has room for them."""
+    given = tuple(word for entry in offers for word in entry)
+    store = max(run.store, len(given))
+    return run._replace(given=given, held=len(offers), store=store)
+
+
+def table_runs():
+    """P1 to P11."""
+    small, empty = encode(SMALL_PLANT), encode(SMALL_PLANT_EMPTY_CLAUSE)
+    first = Run(small, queue=8192, store=128)
+    runs = [first] + [first._replace(k=k) for k in (1, 2, 3, 4)]
+    runs += [first._replace(queue=2 * entries) for entries in (1, 2, 3)]
+    runs += [first._replace(limit=limit) for limit in range(18)]
+    runs.append(offering(first, [(3 << 62, 0)]))
+    runs.append(offering(first, [(1 << 63, 1 << 60)]))
+    runs += [Run(empty), Run(empty, store=0), Run(empty, store=0, queue=4)]
+    runs.append(offering(Run(empty), [(0, 0)]))
+    runs += [Run(with_field(SMALL_PLANT, "D", n)) for n in (0, 17)]
+    runs.append(Run(small[:-1] + b"\1\0"))
+    return runs
+
+
+def host_refusal_runs():
+    """Refusals 1 to 4 alone, two at once, and the borders just allowed."""
+    first = Run(encode(SMALL_PLANT))
+    changes = [dict(k=k) for k in (0, 4097, 65536, LIMIT_MOST)]
+    changes += [dict(codes=15), dict(costs=15), dict(codes=0, costs=0)]
+    changes += [dict(codes=17, costs=16), dict(codes=16, costs=40)]
+    changes += [dict(queue=n) for n in (0, 1, 3, 127, 8191, 8193, 8194, 65535)]
+    changes += [dict(store=n) for n in (1, 3, 8191, 8193, 8194)]
+    changes += [dict(held=n) for n in (17, 18, 65535)]
+    changes += [dict(store=0, held=1), dict(store=2, held=2)]
+    changes += [dict(k=0, codes=0), dict(k=4097, queue=1), dict(k=0, store=1)]
+    changes += [dict(codes=3, queue=3), dict(costs=3, store=8194)]
+    changes += [dict(queue=0, store=3), dict(queue=8194, held=99)]
+    changes += [dict(queue=8192, store=8192, held=4096), dict(held=16)]
+    changes += [dict(k=4096, codes=4096, costs=4096)]
+    changes += [dict(k=4096, codes=4096, costs=4095)]
+    runs = [first._replace(**change) for change in changes]
+    refused = first._replace(sheet=b"\2")
+    return runs + [refused._replace(**c) for c in (dict(k=0), dict(queue=1), dict(held=17))]
+
+
+def author_refusal_runs():
+    sheets = [b""] + header_damage(SMALL_PLANT)[:8:2] + header_damage(SMALL_PLANT)[11:19:2]
+    sheets += literal_damage(SMALL_PLANT)[:4] + end_damage(SMALL_PLANT)[:3]
+    sheets += end_damage(SMALL_PLANT)[-4:-2]
+    return [Run(sheet) for sheet in sheets]
+
+
+def mixed_offers(rng, plant, learned):
+    """True, false and ill formed entries; true ones from a run's own store."""
+    offers = []
+    for _ in range(rng.randint(0, 6)):
+        words = random_words(rng, plant, rng.choice([0.3, 0.7, 1.0]))
+        kind = rng.randrange(4)
+        if kind == 0 and learned:
+            words = rng.choice(learned)
+        elif kind == 1:
+            words = spoil(rng, plant, words)
+        offers.append(words)
+    return offers
+
+
+def learned_by(run):
+    result = answer_run(run)
+    words = result.store[: 2 * result.learned]
+    return list(zip(words[0::2], words[1::2]))
+
+
+def random_run(rng, plant):
+    queue = 2 * rng.choice([1, 2, 3, 4, 6, 10, 20, 64, 64, 64])
+    store = 2 * rng.choice([0, 1, 2, 3, 16, 16, 16])
+    k = rng.choice([1, 2, 3, 5, 20, 40])
+    run = Run(
+        encode(plant), k, k + rng.randint(0, 4), k + rng.randint(0, 4), queue, store
+    )
+    if rng.random() < 0.6:
+        learned = learned_by(run._replace(queue=200, store=32))
+        run = offering(run, mixed_offers(rng, plant, learned))
+    return run
+
+
+def random_runs(rng):
+    """A random run, then the same run at limits around its own trials."""
+    runs = []
+    for place in range(36):
+        plant = tight_plant(rng) if place % 2 else small_random_plant(rng)
+        run = random_run(rng, plant)
+        trials = answer_run(run).trials
+        runs.append(run)
+        if trials:
+            limits = [trials, trials - 1, rng.randrange(trials)]
+            runs += [run._replace(limit=limit) for limit in limits]
+    return runs
+
+
+def least_queue(run):
+    """The run with the fewest queue entries that do not end it 'full'."""
+    entries = 1
+    while answer_run(run._replace(queue=2 * entries)).ending == "full":
+        entries += 1
+    return run._replace(queue=2 * entries)
+
+
+def queue_runs(rng):
+    """Conflicts learned or offered in any order, the queue just long enough
+    and one entry short: what is left off, removed or kept then shows."""
+    runs = []
+    for place in range(32):
+        plant = nogood_plant(rng)
+        run = Run(encode(plant), k=200, codes=200, costs=201)
+        run = run._replace(store=2 * rng.choice([2, 5, 30]))
+        if place % 2:
+            offers = learned_by(run._replace(store=60))
+            rng.shuffle(offers)
+            run = offering(run, offers[: rng.randint(1, len(offers) + 1)])
+        run = least_queue(run)
+        runs += [run, run._replace(queue=run.queue - 2)]
+    return [run for run in runs if run.queue]
+
+
+def wide_runs(rng):
+    """D 1 and D 16, one-value domains, ties everywhere."""
+    binary = shaped(rng, [2] * 20, 16, [3] * 30, "ties")
+    zeros = shaped(rng, [2] * 16, 16, [2] * 6, "zero")
+    large = shaped(rng, [16] * 16, 16, [2] * 8, "wide")
+    singles = shaped(rng, [1] * 16 + [2] * 3, 16, [2] * 3, "top")
+    alone = shaped(rng, [16], 1, [1] * 2, "ties")
+    last = shaped(rng, [1] * 15 + [16, 3], 16, [2] * 6, "small")
+    runs = []
+    for plant in (binary, zeros, large, singles, alone, last):
+        sheet = encode(plant)
+        for queue in (2, 34, 600):
+            runs.append(Run(sheet, 6, 6, 8, queue, 40, 0, 4000))
+        runs.append(Run(sheet, 20, 20, 20, 300, 2, 0, 900))
+    runs.append(Run(encode(binary), 3, 3, 3, 600, 40, 0, 60_000))
+    runs.append(Run(encode(longest_plant(rng)), 2, 2, 2, 600, 40, 0, 300))
+    one = Plant(((65535,),) * 16, (), ())
+    runs.append(Run(encode(one), 2, 2, 2, 2, 0, 0, 0))
+    return runs
+
+
+def contradiction_runs(rng):
+    """No state is consistent; conflicts large and small."""
+    runs = []
+    for decisions in (1, 2, 3):
+        value = (Literal(decisions, 0, 0),), (Literal(decisions, 1, 0),)
+        costs = tuple((1, 1, 0) for _ in range(decisions))
+        run = Run(encode(Plant(costs, (2,), value)))
+        runs += [run, run._replace(store=0), run._replace(limit=3)]
+        runs.append(offering(run, [(0, 0), (0, 0)]))
+        runs.append(offering(run._replace(limit=2), [(0, 0), (1, 0), (0, 0)]))
+    return runs
+
+
+@lru_cache(maxsize=1)
+def listing_cases():
+    rng = Random(303)
+    cases = table_runs() + host_refusal_runs() + author_refusal_runs()
+    cases += random_runs(rng) + queue_runs(rng)
+    return cases + wide_runs(rng) + contradiction_runs(rng)
+
+
+def words_bytes(words, width):
+    return b"".join(word.to_bytes(width, "big") for word in words)
+
+
+def run_line(run):
+    try:
+        result = answer_run(run)
+    except Refusal as refusal:
+        return f"refused {refusal.number}"
+    lent = words_bytes(result.codes, 8) + words_bytes(result.costs, 4)
+    lent += words_bytes(result.queue, 8) + words_bytes(result.store, 8)
+    counts = " ".join(str(word) for word in result.words()[1:])
+    return f"{result.ending} {counts} {fnv(lent)}"
+
+
+def run_bytes(run):
+    lengths = (run.codes, run.costs, run.queue, run.store, run.held)
+    return (
+        sheet_bytes(run.sheet)
+        + run.k.to_bytes(4, "big")
+        + words_bytes(lengths, 2)
+        + run.limit.to_bytes(4, "big")
+        + len(run.given).to_bytes(2, "big")
+        + words_bytes(run.given, 8)
+    )

@@ -1,0 +1,186 @@
+"""Fixed sheets for a gate: plants of every shape, whole and damaged."""
+
+from random import Random
+
+from plant import Literal, Plant, Refusal, encode, fields, pack, read
+from shapes import random_sizes, shaped, small_random_plant
+
+LIMIT_MOST = 4_294_967_295
+SMALL_PLANT = Plant(
+    ((0, 3), (0, 3)),
+    (2,),
+    (
+        (Literal(0, 1, 0), Literal(1, 1, 0), Literal(2, 0, 1)),
+        (Literal(2, 0, 0),),
+    ),
+)
+SMALL_PLANT_EMPTY_CLAUSE = Plant(
+    SMALL_PLANT.costs, SMALL_PLANT.state_sizes, SMALL_PLANT.clauses + ((),)
+)
+
+
+def fnv(data):
+    checksum = 2166136261
+    for byte in data:
+        checksum = (checksum ^ byte) * 16777619 & 0xFFFFFFFF
+    return f"{checksum:08x}"
+
+
+def longest_plant(rng):
+    return shaped(rng, [16] * 48, 16, [15] * 512, "wide")
+
+
+def shape_plants(rng):
+    """Whole sheets over many shapes, the borders of every field included."""
+    plants = [SMALL_PLANT, SMALL_PLANT_EMPTY_CLAUSE, longest_plant(rng)]
+    for decisions in (1, 2, 15, 16):
+        for states in (0, 1, 31, 32):
+            for clauses in (0, 1, 7):
+                sizes = random_sizes(rng, decisions + states, rng.choice([1, 2, 16]))
+                lengths = [rng.randint(0, 15) for _ in range(clauses)]
+                kind = rng.choice(["zero", "wide", "top"])
+                plants.append(shaped(rng, sizes, decisions, lengths, kind))
+    plants.append(shaped(rng, [1], 1, [0] * 512, "zero"))
+    plants.append(shaped(rng, [1] * 48, 16, [15] * 511, "top"))
+    plants.append(shaped(rng, [2, 3, 2], 2, [1] * 512, "small"))
+    plants.append(shaped(rng, [16] * 48, 16, [0, 15] * 20, "wide"))
+    plants.append(Plant(((1, 2),), (), ((Literal(0, 0, 1),) * 15,)))
+    plants.extend(small_random_plant(rng) for _ in range(40))
+    return plants
+
+
+def with_field(plant, name, number, pick=0):
+    """The sheet with one field of that name given another number."""
+    listed = fields(plant)
+    places = [p for p, field in enumerate(listed) if field[0] == name]
+    place = places[pick % len(places)]
+    listed[place] = (name, listed[place][1], number)
+    return pack(listed)
+
+
+def header_damage(plant):
+    sheets = [with_field(plant, "edition", n) for n in (0, 2, 3, 128, 129, 255)]
+    sheets += [with_field(plant, "D", n) for n in (0, 17, 18, 30, 31)]
+    sheets += [with_field(plant, "S", n) for n in (33, 34, 48, 63)]
+    sheets += [with_field(plant, "C", n) for n in (513, 514, 768, 1023)]
+    # One too few or too many shifts every later field.
+    sheets += [with_field(plant, "D", n) for n in (1, 3, 16)]
+    sheets += [with_field(plant, "S", n) for n in (0, 2, 32)]
+    sheets += [with_field(plant, "C", n) for n in (0, 1, 3, 512)]
+    return sheets
+
+
+def literal_damage(plant):
+    """Refusals 10 and 11 at each literal, at and beyond the border."""
+    literals = [literal for clause in plant.clauses for literal in clause]
+    sheets = []
+    for place, literal in enumerate(literals):
+        size = plant.sizes[literal.variable]
+        for number in (len(plant.sizes), 63):
+            sheets.append(with_field(plant, "variable", number, place))
+        for number in (size, 15):
+            sheets.append(with_field(plant, "value", number, place))
+    return sheets
+
+
+def end_damage(plant):
+    """Filler bits set one by one, bytes appended, both, and a byte missing."""
+    sheet = encode(plant)
+    filler = -sum(width for _, width, _ in fields(plant)) % 8
+    sheets = [sheet[:-1] + bytes([sheet[-1] | 1 << bit]) for bit in range(filler)]
+    sheets += [spoilt + b"\0" for spoilt in sheets]
+    sheets += [sheet + b"\0", sheet + b"\1", sheet + b"\0" * 44, sheet[:-1]]
+    return sheets
+
+
+def double_faults():
+    small = SMALL_PLANT
+    listed = fields(small)
+    by_name = {name: p for p, (name, _, _) in reversed(list(enumerate(listed)))}
+
+    def changed(**numbers):
+        own = list(listed)
+        for name, number in numbers.items():
+            own[by_name[name]] = (name, own[by_name[name]][1], number)
+        return pack(own)
+
+    return [
+        changed(edition=2, D=0),
+        changed(edition=2, D=0)[:1],
+        changed(D=17, S=33),
+        changed(D=0, C=1023)[:2],
+        changed(S=63, C=600),
+        changed(S=63, C=600)[:3],
+        changed(S=40)[:2],
+        changed(C=700)[:3],
+        changed(C=700, variable=9)[:4],
+        changed(variable=3, value=2),
+        changed(variable=3, value=2)[:15],
+        changed(variable=3, value=2)[:16],
+        changed(value=9)[:15] + b"\xff",
+        changed(variable=63) + b"\0",
+        changed(value=2) + b"\xff\xff",
+        changed(edition=0)[:0],
+        changed(edition=0) + b"\0",
+    ]
+
+
+def filler_plants():
+    """One plant for each number of filler bits, 0 to 7."""
+    found = {}
+    for decisions in range(1, 5):
+        for states in range(3):
+            for literals in range(8):
+                clauses = ((Literal(0, 0, 0),) * literals,)
+                plant = Plant(((7,),) * decisions, (1,) * states, clauses)
+                bits = sum(width for _, width, _ in fields(plant))
+                found.setdefault(-bits % 8, plant)
+    return [found[filler] for filler in sorted(found)]
+
+
+def flipped(rng, sheet):
+    place = rng.randrange(8 * len(sheet))
+    spoilt = bytearray(sheet)
+    spoilt[place // 8] ^= 128 >> place % 8
+    return bytes(spoilt)
+
+
+def sheet_cases():
+    rng = Random(101)
+    plants = shape_plants(rng)
+    whole = [encode(plant) for plant in plants]
+    longest = encode(plants[2])
+    small = encode(SMALL_PLANT)
+    cases = whole + header_damage(SMALL_PLANT) + literal_damage(SMALL_PLANT)
+    cases += [small[:length] for length in range(len(small))]
+    cases += double_faults()
+    for plant in filler_plants():
+        cases.append(encode(plant))
+        cases += end_damage(plant)[::2]
+    cases += end_damage(SMALL_PLANT) + end_damage(plants[2])
+    cases += [longest[:11000], longest[:2000]]
+    cases += [flipped(rng, rng.choice(whole[:2] + whole[60:])) for _ in range(40)]
+    cases += [rng.randbytes(rng.randint(1, 60)) for _ in range(4)]
+    cases += [b"\1" + rng.randbytes(rng.randint(1, 60)) for _ in range(8)]
+    return cases
+
+
+def sheet_line(sheet):
+    try:
+        plant = read(sheet)
+    except Refusal as refusal:
+        return f"refused {refusal.number}"
+    table = bytearray(plant.sizes)
+    for costs in plant.costs:
+        for cost in costs:
+            table += cost.to_bytes(2, "big")
+    table += bytes(len(clause) for clause in plant.clauses)
+    for clause in plant.clauses:
+        for literal in clause:
+            table += bytes(literal)
+    counts = f"{plant.decisions} {len(plant.state_sizes)} {len(plant.clauses)}"
+    return f"{counts} {fnv(table)}"
+
+
+def sheet_bytes(sheet):
+    return len(sheet).to_bytes(2, "big") + sheet
