@@ -123,12 +123,10 @@ module _ (sheet : List ℕ) (k : ℕ) (b : Buffers) (held limit : ℕ) (result :
           absurd (omega arith)
 
   -- what the export returns and leaves is what the model's export does, and it keeps the promise
-  pub exported-as : {returned : ℕ} {words : List ℕ} → exportedOf result after (answerOf r) ≡ exported returned after words → exportCall sheet k b held limit result ≡ exported returned after words
+  pub export-answered : {returned : ℕ} {words : List ℕ} → exportedOf result after (answerOf r) ≡ exported returned after words
+      → (exportCall sheet k b held limit result ≡ exported returned after words) × ExportPromises sheet k b held limit result returned after words
   unfolding exportCall
-  exported-as e = rw (← h .answer-is, ← h .after-is) e
-
-  pub export-promised : {returned : ℕ} {words : List ℕ} → exportedOf result after (answerOf r) ≡ exported returned after words → ExportPromises sheet k b held limit result returned after words
-  export-promised e = (answerOf r, e, kept sheet k b held limit (ltb (length result) 6) h)
+  export-answered e = rw (← h .answer-is, ← h .after-is) (e, (e, kept sheet k b held limit (ltb (length result) 6) h))
 
 -- what the export makes of a refusal, and of a run
 pub refused-written : (result : List ℕ) (after : Buffers) {x : Refusal} {r : Answers} {n : ℕ} → r ≡ Answers.Refused x → n ≡ refusalNumber (refusalOf x) → exportedOf result after (answerOf r) ≡ exported n after result

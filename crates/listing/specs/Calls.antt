@@ -78,7 +78,8 @@ Promises sheet k before held limit r after = PromisedBy sheet k before limit (an
 abbrev pub exported : ℕ → Buffers → List ℕ → Exported
 exported returned after result = record { returned = returned; after = after; result = result }
 
--- what is promised of the export: what it returns and leaves tells an answer that keeps the call's promise
+-- what is promised of the export: what it returns and leaves tells the answer of the model's call, and that answer keeps the call's promise with these very buffers
 abbrev pub ExportPromises : (sheet : List ℕ) (k : ℕ) (before : Buffers) (held limit : ℕ) (result : List ℕ) → ℕ → Buffers → List ℕ → Type 0
 ExportPromises sheet k before held limit result returned after words =
-    (a : Answer) × (exportedOf result after a ≡ exported returned after words) × PromisedBy sheet k before limit a after (listingWith sheet k before held limit (ltb (length result) 6) .struck)
+    let called : Called = listingWith sheet k before held limit (ltb (length result) 6) in
+    (exportedOf result after (called .answer) ≡ exported returned after words) × PromisedBy sheet k before limit (called .answer) after (called .struck)

@@ -1,6 +1,5 @@
 -- `call::leading_list` meets its contract: the equation with the model's export, and what is promised of every call. Assumes nothing.
-use Rattle.listing.specs.Calls.{buffers}
-use Rattle.listing.proofs.Answering.{ran-long, exported-as, export-promised, refused-written, ran-written}
+use Rattle.listing.proofs.Answering.{ran-long, export-answered, refused-written, ran-written}
 use borrow.Author.Needs.{needs}
 use Rattle.listing.proofs.call.leading_list.Statement.{statement}
 use Rattle.listing.proofs.call.leading_list.Tie as tie
@@ -19,8 +18,9 @@ enum-known-e c = search needs
 
 write-requires : tie.Need-write-requires
 write-requires c κs =
-    let s = c .before .before .before .before .before .before .before .before .before .before .before .before .before .before .before .before .before .before .before .before .before .before .before in
-    ran-long (s .args .sheet .now) (s .args .k) (buffers (s .args .codes .now) (s .args .costs .now) (s .args .queue .now) (s .args .store .now)) (s .args .held) (s .args .limit) (s .args .result .now) (c .before .before .before .before .before .before .before .before .before .before .before .before .list-with .ensures) (c .before .before .e .given .1)
+    let called = c .before .before .before .before .before .before .before .before .before .before .before .before in
+    let start = called .before .before .before .before .before .before .before .before .before .before .before in
+    ran-long _ _ _ _ _ (start .args .result .now) (called .list-with .ensures) (c .before .before .e .given .1)
 
 same-length : tie.Need-same-length
 same-length c = search needs
@@ -36,10 +36,8 @@ same-length-4 c = search needs
 
 returns : tie.Need-returns
 returns c =
-    let s = c .before .before .before .before .before .before .before .before .before .before .before .before .before .before .before .before .before .before .before .before .before .before .before in
-    let h = c .before .before .before .before .before .before .before .before .before .before .before .before .list-with .ensures in
-    let e = refused-written (s .args .result .now) _ (c .before .before .r .given .1) (c .number .ensures) in
-    (exported-as (s .args .sheet .now) (s .args .k) (buffers (s .args .codes .now) (s .args .costs .now) (s .args .queue .now) (s .args .store .now)) (s .args .held) (s .args .limit) (s .args .result .now) h e, export-promised (s .args .sheet .now) (s .args .k) (buffers (s .args .codes .now) (s .args .costs .now) (s .args .queue .now) (s .args .store .now)) (s .args .held) (s .args .limit) (s .args .result .now) h e)
+    let called = c .before .before .before .before .before .before .before .before .before .before .before .before in
+    export-answered _ _ _ _ _ _ (called .list-with .ensures) (refused-written _ _ (c .before .before .r .given .1) (c .number .ensures))
 
 same-length-5 : tie.Need-same-length-5
 same-length-5 c = search needs
@@ -58,10 +56,8 @@ same-length-9 c = search needs
 
 returns-2 : tie.Need-returns-2
 returns-2 c =
-    let s = c .before .before .before .before .before .before .before .before .before .before .before .before .before .before .before .before .before .before .before .before .before .before .before .before .before .before in
-    let h = c .before .before .before .before .before .before .before .before .before .before .before .before .before .before .before .list-with .ensures in
-    let e = ran-written (s .args .result .now) _ _ (c .before .before .before .before .before .e .given .1) (c .before .before .write .ensures) in
-    (exported-as (s .args .sheet .now) (s .args .k) (buffers (s .args .codes .now) (s .args .costs .now) (s .args .queue .now) (s .args .store .now)) (s .args .held) (s .args .limit) (s .args .result .now) h e, export-promised (s .args .sheet .now) (s .args .k) (buffers (s .args .codes .now) (s .args .costs .now) (s .args .queue .now) (s .args .store .now)) (s .args .held) (s .args .limit) (s .args .result .now) h e)
+    let called = c .before .before .before .before .before .before .before .before .before .before .before .before .before .before .before in
+    export-answered _ _ _ _ _ _ (called .list-with .ensures) (ran-written _ _ _ (c .before .before .before .before .before .e .given .1) (c .before .before .write .ensures))
 
 pub leading-list-spec : {M : Type 1} → statement M
 leading-list-spec =
