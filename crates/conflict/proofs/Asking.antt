@@ -1,6 +1,6 @@
 -- From the model's calls to what the code does in turn: read the sheet, look at the words, ask; and what is answered is right. Assumes nothing.
-use mathlib.Core.Path.{_≡_, refl, sym, ap}
-use mathlib.Core.Bool.{Bool, true, false}
+use mathlib.Core.Path.{_≡_, refl, sym, ap, _∙_}
+use mathlib.Core.Bool.{Bool, true, false, false≢true}
 use mathlib.Core.Option.{Option, none, some}
 use mathlib.Core.List.{List}
 use Prim.Native.Nat.{ℕ, _^_, _≤_, _<_}
@@ -15,17 +15,21 @@ use Rattle.model.specs.Calls.{Refusal, byHost, byAuthor, firstGiven, wordGround
 use Rattle.theory.specs.Consistency.{Alone}
 use Rattle.theory.specs.Plant.{Accepted}
 use Rattle.theory.specs.Tables.{Tabled}
+use Rattle.theory.specs.Words.{Words}
 use Rattle.theory.proofs.Lists.{all-map, all-image}
 use Rattle.theory.proofs.Sheet.{accepted}
 use Rattle.theory.proofs.Tables.{tabled-decisions, tabled-count, tabled-few}
 use Rattle.theory.proofs.Test.{accepted-present, test-consistent, test-inconsistent}
 use Rattle.theory.proofs.Reduction.{reduce-alone}
 use Rattle.theory.proofs.Words.{well-formed-valid, well-formed-words, valid-words}
+use Rattle.consistency.specs.declared.Answer.{Answer as Ending}
+use Rattle.consistency.specs.Answers.{Ended}
+use Rattle.consistency.proofs.Endings.{was-consistent, was-inconsistent, was-spent}
 use Rattle.conflict.specs.declared.reduce.Reduced.{Reduced as Answer}
-use Rattle.conflict.specs.declared.calls.TestAnswer.{TestAnswer}
+use Rattle.conflict.specs.declared.calls.Refusal.{Refusal as Whose}
 use Rattle.conflict.specs.declared.calls.ReduceAnswer.{ReduceAnswer}
-use Rattle.conflict.specs.Reduced.{Held, Reduces}
-use Rattle.conflict.specs.Calls.{groundNumber, onAnswer, onPlant, shown, testOf, TestSays, TestRight, Worded, worded, reduceOf, ReduceSays, ReduceRight}
+use Rattle.conflict.specs.Reduced.{Reduces}
+use Rattle.conflict.specs.Calls.{groundNumber, onAnswer, onPlant, shown, TestSays, worded, reduceOf, ReduceSays, ReduceRight, endingOf, Answers}
 
 -- ---- the words
 
@@ -63,29 +67,28 @@ module _ {A : Type 0} (p : Plant) (mask values : ℕ) (ask : Assignment → A) w
   unfolding onPlant
   plant-answered e = rw (onPlant, e)
 
-module _ {p : Plant} {d : ℕ} {domains costs counts lits : List ℕ} (t : Tabled p d domains costs counts lits) (mask values : ℕ) where
-  module _ {A : Type 0} (ask : Assignment → A) where
-    -- a ground that is given refuses the call
-    pub tabled-refused : {n : ℕ} → n ≡ groundNumber (firstGiven (wordGrounds (take d domains) mask values)) → (n ≡ 0 → ⊥) → onPlant p mask values ask ≡ refused (byHost n)
-    tabled-refused {n} e h = plant-refused p mask values ask (go (firstGiven (wordGrounds (decisionSizes p) mask values)) (rw (← tabled-decisions t) at e))
-      where
-        go : (o : Option ℕ) → n ≡ groundNumber o → o ≡ some n
-        go none e = absurd (h e)
-        go (some m) e = ap some (sym e)
+module _ {p : Plant} {d : ℕ} {domains costs counts lits : List ℕ} (t : Tabled p d domains costs counts lits) (mask values limit : ℕ) {minimal : Bool} where
+  -- a ground that is given refuses the call
+  pub plant-refuses : {n : ℕ} → n ≡ groundNumber (firstGiven (wordGrounds (take d domains) mask values)) → (n ≡ 0 → ⊥)
+      → Answers minimal (ReduceAnswer.Refused (Whose.Host n)) (onPlant p mask values (λ a. test p limit a 0)) (onPlant p mask values (λ a. reduceAlone p limit a))
+  plant-refuses {n} e h =
+      let f = go (firstGiven (wordGrounds (decisionSizes p) mask values)) (rw (← tabled-decisions t) at e) in
+      record { test = λ _. rw (plant-refused p mask values (λ a. test p limit a 0) f); reduction = λ _. rw (plant-refused p mask values (λ a. reduceAlone p limit a) f) }
+    where
+      go : (o : Option ℕ) → n ≡ groundNumber o → o ≡ some n
+      go none e = absurd (h e)
+      go (some m) e = ap some (sym e)
 
-    -- where none is, the assignment answers
-    pub tabled-answered : groundNumber (firstGiven (wordGrounds (take d domains) mask values)) ≡ 0 → onPlant p mask values ask ≡ answered (ask (assignmentOf (length (p .costs)) mask values))
-    tabled-answered e = plant-answered p mask values ask (fit (decisionSizes p) mask values (rw (← tabled-decisions t) at e) .0)
-
-  -- and the words hold it
-  pub tabled-held : groundNumber (firstGiven (wordGrounds (take d domains) mask values)) ≡ 0 → mask < 2 ^ 64 → values < 2 ^ 64 → Held p (assignmentOf (length (p .costs)) mask values) mask values
-  tabled-held e fm fv =
+  -- where none is, the words hold an assignment, and it answers
+  pub plant-answers : groundNumber (firstGiven (wordGrounds (take d domains) mask values)) ≡ 0 → mask < 2 ^ 64 → values < 2 ^ 64
+      → {r : ReduceAnswer} → ((a : Assignment) → Words a mask values → Valid (decisionSizes p) a → Answers minimal r (answered (test p limit a 0)) (answered (reduceAlone p limit a)))
+      → Answers minimal r (onPlant p mask values (λ a. test p limit a 0)) (onPlant p mask values (λ a. reduceAlone p limit a))
+  plant-answers e fm fv h =
       let l = length-map (p .costs) length in
-      let w = fit (decisionSizes p) mask values (rw (← tabled-decisions t) at e) .1 in
-      rw (← l) record {
-        words = well-formed-words (decisionSizes p) mask values w (omega (arith, tabled-count t, tabled-few t)) fm fv;
-        valid = well-formed-valid (decisionSizes p) mask values w;
-      }
+      let f = fit (decisionSizes p) mask values (rw (← tabled-decisions t) at e) in
+      rw (plant-answered p mask values (λ a. test p limit a 0) (f .0), plant-answered p mask values (λ a. reduceAlone p limit a) (f .0), ← l) (h _
+      (well-formed-words (decisionSizes p) mask values (f .1) (omega (arith, tabled-count t, tabled-few t)) fm fv)
+      (well-formed-valid (decisionSizes p) mask values (f .1)))
 
 -- ---- a sheet and two words
 
@@ -98,39 +101,65 @@ module _ {A : Type 0} (sheet : List ℕ) (mask values : ℕ) (ask : Plant → As
   unfolding onWords onPlant
   sheet-got e = rw (onWords, e)
 
-module _ (sheet : List ℕ) (mask values limit : ℕ) where
-  pub test-refused : {n : ℕ} → readSheet edition1 sheet ≡ Read.refused n → testCall sheet mask values limit ≡ refused (byAuthor n)
-  unfolding testCall
-  test-refused e = sheet-refused sheet mask values (λ p a. test p limit a 0) e
+module _ (sheet : List ℕ) (mask values limit : ℕ) {minimal : Bool} where
+  pub sheet-refuses : {n : ℕ} → readSheet edition1 sheet ≡ Read.refused n → Answers minimal (ReduceAnswer.Refused (Whose.Author n)) (testCall sheet mask values limit) (reduceCall sheet mask values limit)
+  unfolding testCall reduceCall
+  sheet-refuses e = record {
+    test = λ _. rw (testCall, sheet-refused sheet mask values (λ p a. test p limit a 0) e);
+    reduction = λ _. rw (reduceCall, sheet-refused sheet mask values (λ p a. reduceAlone p limit a) e);
+  }
 
-  pub test-got : {p : Plant} {end : ℕ} → readSheet edition1 sheet ≡ got p end → testCall sheet mask values limit ≡ onPlant p mask values (λ a. test p limit a 0)
-  unfolding testCall
-  test-got e = sheet-got sheet mask values (λ p a. test p limit a 0) e
+  pub sheet-answers : {p : Plant} {end : ℕ} → readSheet edition1 sheet ≡ got p end
+      → {r : ReduceAnswer} → Answers minimal r (onPlant p mask values (λ a. test p limit a 0)) (onPlant p mask values (λ a. reduceAlone p limit a))
+      → Answers minimal r (testCall sheet mask values limit) (reduceCall sheet mask values limit)
+  unfolding testCall reduceCall
+  sheet-answers e h = rw (testCall, reduceCall, sheet-got sheet mask values (λ p a. test p limit a 0) e, sheet-got sheet mask values (λ p a. reduceAlone p limit a) e) h
 
-  pub reduce-refused : {n : ℕ} → readSheet edition1 sheet ≡ Read.refused n → reduceCall sheet mask values limit ≡ refused (byAuthor n)
-  unfolding reduceCall
-  reduce-refused e = sheet-refused sheet mask values (λ p a. reduceAlone p limit a) e
+-- ---- the test of an assignment, and the reduction after it
 
-  pub reduce-got : {p : Plant} {end : ℕ} → readSheet edition1 sheet ≡ got p end → reduceCall sheet mask values limit ≡ onPlant p mask values (λ a. reduceAlone p limit a)
-  unfolding reduceCall
-  reduce-got e = sheet-got sheet mask values (λ p a. reduceAlone p limit a) e
+module _ (p : Plant) (limit : ℕ) {minimal : Bool} (a : Assignment) {before after : List ℕ} {e : Ending} (h : Ended (test p limit a 0) before after e) {t : ℕ} where
+  pub answers-none : e ≡ Ending.Consistent t → Answers minimal (ReduceAnswer.None t) (answered (test p limit a 0)) (answered (reduceAlone p limit a))
+  unfolding reduceAlone
+  answers-none q = let w = was-consistent _ before after t e h q in record { test = λ _. rw w; reduction = λ _. rw (reduceAlone, w) }
+
+  pub answers-spent : e ≡ Ending.Spent t → Answers minimal (ReduceAnswer.Spent t) (answered (test p limit a 0)) (answered (reduceAlone p limit a))
+  unfolding reduceAlone
+  answers-spent q = let w = was-spent _ before after t e h q .0 in record { test = λ _. rw w; reduction = λ _. rw (reduceAlone, w) }
+
+  module _ (q : e ≡ Ending.Inconsistent t) where
+    pub answers-whole : minimal ≡ false → {mask values : ℕ} → Answers minimal (ReduceAnswer.Conflict mask values t) (answered (test p limit a 0)) (answered (reduceAlone p limit a))
+    answers-whole f = record { test = λ _. rw (was-inconsistent _ before after t e h q .0); reduction = λ g. absurd (false≢true (sym f ∙ g)) }
+
+    module _ (f : minimal ≡ true) (r : Answer) (k : Reduces p (reduce p limit a t) r) where
+      pub answers-conflict : {m x u : ℕ} → r ≡ Answer.Conflict m x u → Answers minimal (ReduceAnswer.Conflict m x u) (answered (test p limit a 0)) (answered (reduceAlone p limit a))
+      unfolding reduceAlone
+      answers-conflict {m} {x} {u} g =
+          let k : Reduces p (reduce p limit a t) (Answer.Conflict m x u) = rw g at k in
+          record { test = λ g. absurd (false≢true (sym g ∙ f)); reduction = λ _. rw (reduceAlone, was-inconsistent _ before after t e h q .0, k .2, k .1 .words .mask-is, k .1 .words .values-is) }
+
+      pub answers-stopped : {u : ℕ} → r ≡ Answer.Spent u → Answers minimal (ReduceAnswer.Spent u) (answered (test p limit a 0)) (answered (reduceAlone p limit a))
+      unfolding reduceAlone
+      answers-stopped {u} g =
+          let k : reduce p limit a t ≡ Reduced.spent u = rw g at k in
+          record { test = λ g. absurd (false≢true (sym g ∙ f)); reduction = λ _. rw (reduceAlone, was-inconsistent _ before after t e h q .0, k) }
 
 -- ---- what is answered is right
 
--- what holds of each refusal, and of what a valid assignment answers, holds of the answer
-on-plant : {A B : Type 0} (p : Plant) (mask values : ℕ) (ask : Assignment → A) (g : A → B) (S : Answered B → Type 0) → ((r : Refusal) → S (refused r))
-    → (Valid (decisionSizes p) (assignmentOf (length (p .costs)) mask values) → S (answered (g (ask (assignmentOf (length (p .costs)) mask values)))))
-    → S (onAnswer g (onPlant p mask values ask))
-on-plant p mask values ask g S refuses answers = go (firstGiven (wordGrounds (decisionSizes p) mask values)) refl
-  where
-    go : (o : Option ℕ) → firstGiven (wordGrounds (decisionSizes p) mask values) ≡ o → S (onAnswer g (onPlant p mask values ask))
-    go (some n) e = rw (plant-refused p mask values ask e) (refuses (byHost n))
-    go none e =
-        let l = length-map (p .costs) length in
-        let f : groundNumber (firstGiven (wordGrounds (decisionSizes p) mask values)) ≡ 0 = rw e in
-        rw (plant-answered p mask values ask e) (answers (rw l at (well-formed-valid (decisionSizes p) mask values (fit (decisionSizes p) mask values f .1))))
+module _ (sheet : List ℕ) (mask values : ℕ) where
+  -- what holds of each refusal, and of what a valid assignment of the plant answers, holds of the answer
+  answer-says : {A B : Type 0} (ask : Plant → Assignment → A) (g : A → B) (S : Plant → Assignment → Answered B → Type 0) → ((p : Plant) (a : Assignment) (r : Refusal) → S p a (refused r))
+      → ((p : Plant) → Accepted edition1 p → (a : Assignment) → Valid (decisionSizes p) a → S p a (answered (g (ask p a))))
+      → (p : Plant) (end : ℕ) → readSheet edition1 sheet ≡ got p end → S p (assignmentOf (length (p .costs)) mask values) (onAnswer g (onWords edition1 sheet mask values ask))
+  answer-says ask g S refuses answers p end h = rw (sheet-got sheet mask values ask h) (go (firstGiven (wordGrounds (decisionSizes p) mask values)) refl)
+    where
+      go : (o : Option ℕ) → firstGiven (wordGrounds (decisionSizes p) mask values) ≡ o → S p (assignmentOf (length (p .costs)) mask values) (onAnswer g (onPlant p mask values (ask p)))
+      go (some n) e = rw (plant-refused p mask values (ask p) e) (refuses p _ (byHost n))
+      go none e =
+          let l = length-map (p .costs) length in
+          let f : groundNumber (firstGiven (wordGrounds (decisionSizes p) mask values)) ≡ 0 = rw e in
+          rw (plant-answered p mask values (ask p) e) (answers p (accepted sheet p end h .0) _ (rw l at (well-formed-valid (decisionSizes p) mask values (fit (decisionSizes p) mask values f .1))))
 
-module _ (p : Plant) (ok : Accepted edition1 p) (limit : ℕ) (a : Assignment) (valid : Valid (decisionSizes p) a) where
+module _ (limit : ℕ) (p : Plant) (ok : Accepted edition1 p) (a : Assignment) (valid : Valid (decisionSizes p) a) where
   test-says : TestSays p a (answered (shown (test p limit a 0)))
   test-says = go (test p limit a 0) refl
     where
@@ -154,41 +183,19 @@ module _ (p : Plant) (ok : Accepted edition1 p) (limit : ℕ) (a : Assignment) (
       go (reduced (conflict c t)) h = (h .0, (c, valid-words (decisionSizes p) few small c (h .1 .conflict .valid), h .1, h .3))
       go (reduced (Reduced.spent t)) h = tt
 
-module _ (sheet : List ℕ) (mask values limit : ℕ) where
-  -- the test's answer is right about the assignment
-  pub test-right : (r : TestAnswer) → testOf r ≡ onAnswer shown (testCall sheet mask values limit) → TestRight sheet mask values r
-  test-right r e p end h = rw (e, test-got sheet mask values limit h)
-      (on-plant p mask values (λ a. test p limit a 0) shown (TestSays p (assignmentOf (length (p .costs)) mask values)) (λ r. tt)
-      (test-says p (accepted sheet p end h .0) limit (assignmentOf (length (p .costs)) mask values)))
+module _ (sheet : List ℕ) (mask values limit : ℕ) {r : ReduceAnswer} where
+  -- the test's answer is the model's, and right about the assignment
+  pub test-right : Answers false r (testCall sheet mask values limit) (reduceCall sheet mask values limit) → {s : ReduceAnswer} → r ≡ s
+      → (endingOf s ≡ onAnswer shown (testCall sheet mask values limit)) × ((p : Plant) (end : ℕ) → readSheet edition1 sheet ≡ got p end → TestSays p (assignmentOf (length (p .costs)) mask values) (endingOf s))
+  unfolding testCall
+  test-right h {s} q =
+      let e : endingOf s ≡ onAnswer shown (testCall sheet mask values limit) = rw q at (h .test refl) in
+      (e, λ p end h. rw e (answer-says sheet mask values (λ p a. test p limit a 0) shown TestSays (λ p a r. tt) (test-says limit) p end h))
 
   -- and so is the reduction's
-  pub reduce-right : (r : ReduceAnswer) → reduceOf r ≡ onAnswer worded (reduceCall sheet mask values limit) → ReduceRight sheet mask values r
-  reduce-right r e p end h = rw (e, reduce-got sheet mask values limit h)
-      (on-plant p mask values (λ a. reduceAlone p limit a) worded (ReduceSays p (assignmentOf (length (p .costs)) mask values)) (λ r. tt)
-      (reduce-says p (accepted sheet p end h .0) limit (assignmentOf (length (p .costs)) mask values)))
-
--- ---- the reduction called alone
-
-module _ (p : Plant) (limit : ℕ) (a : Assignment) {t : ℕ} where
-  pub alone-none : {f : List ℕ} → test p limit a 0 ≡ consistent f t → reduceAlone p limit a ≡ nothing t
-  unfolding reduceAlone
-  alone-none q = rw (reduceAlone, q)
-
-  pub alone-spent : test p limit a 0 ≡ Tested.spent t → reduceAlone p limit a ≡ reduced (Reduced.spent t)
-  unfolding reduceAlone
-  alone-spent q = rw (reduceAlone, q)
-
-  module _ (q : test p limit a 0 ≡ inconsistent t) (r : Answer) (h : Reduces p (reduce p limit a t) r) where
-    less : reduceAlone p limit a ≡ reduced (reduce p limit a t)
-    unfolding reduceAlone
-    less = rw (reduceAlone, q)
-
-    pub alone-conflict : {m x u : ℕ} → r ≡ Answer.Conflict m x u → worded (reduceAlone p limit a) ≡ Worded.conflict m x u
-    alone-conflict {m} {x} {u} e =
-        let k : Reduces p (reduce p limit a t) (Answer.Conflict m x u) = rw e at h in
-        rw (less, k .2, k .1 .words .mask-is, k .1 .words .values-is)
-
-    pub alone-stopped : {u : ℕ} → r ≡ Answer.Spent u → worded (reduceAlone p limit a) ≡ Worded.spent u
-    alone-stopped {u} e =
-        let k : reduce p limit a t ≡ Reduced.spent u = rw e at h in
-        rw (less, k)
+  pub reduce-right : Answers true r (testCall sheet mask values limit) (reduceCall sheet mask values limit)
+      → (reduceOf r ≡ onAnswer worded (reduceCall sheet mask values limit)) × ReduceRight sheet mask values r
+  unfolding reduceCall
+  reduce-right h =
+      let e = h .reduction refl in
+      (e, λ p end h. rw e (answer-says sheet mask values (λ p a. reduceAlone p limit a) worded ReduceSays (λ p a r. tt) (reduce-says limit) p end h))

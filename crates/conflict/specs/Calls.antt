@@ -1,6 +1,6 @@
 -- What the calls on a sheet and two words answer, as the model's. Assumes nothing: these are definitions.
 use mathlib.Core.Path.{_≡_}
-use mathlib.Core.Bool.{true, false}
+use mathlib.Core.Bool.{Bool, true, false}
 use mathlib.Core.Option.{Option, none, some}
 use mathlib.Core.List.{List, [], _∷_}
 use Prim.Native.Nat.{ℕ}
@@ -113,3 +113,17 @@ ReduceSays p a (answered (Worded.spent t)) = Unit {0}
 
 abbrev pub ReduceRight : List ℕ → ℕ → ℕ → ReduceAnswer → Type 0
 ReduceRight sheet mask values r = (p : Plant) (end : ℕ) → readSheet edition1 sheet ≡ got p end → ReduceSays p (assignmentOf (length (p .costs)) mask values) (reduceOf r)
+
+-- ---- both by one function
+
+-- how the test ended, where the conflict is the whole
+abbrev pub endingOf : ReduceAnswer → Answered Tested
+endingOf (ReduceAnswer.Refused r) = refused (refusalOf r)
+endingOf (ReduceAnswer.None t) = answered (consistent [] t)
+endingOf (ReduceAnswer.Conflict mask values t) = answered (inconsistent t)
+endingOf (ReduceAnswer.Spent t) = answered (Tested.spent t)
+
+-- it answers as the test does, or as the reduction where a minimal conflict is asked for
+pub record Answers (minimal : Bool) (r : ReduceAnswer) (e : Answered Tested) (o : Answered ReducedAlone) : Type 0 where
+  pub test : minimal ≡ false → endingOf r ≡ onAnswer shown e
+  pub reduction : minimal ≡ true → reduceOf r ≡ onAnswer worded o

@@ -13,7 +13,7 @@ ghost use Rattle.model.specs.Consistency.{test};
 ghost use Rattle.model.specs.Conflict.{reduceAlone};
 ghost use Rattle.model.specs.Calls.{refusalNumber, firstGiven, wordGrounds, answered, testCall, reduceCall};
 ghost use Rattle.conflict.specs.Given.{Limits, Ready, ForPlant, ForWords};
-ghost use Rattle.conflict.specs.Calls.{refusalOf, groundNumber, onAnswer, onPlant, shown, testOf, TestRight, testExport, worded, reduceOf, ReduceRight};
+ghost use Rattle.conflict.specs.Calls.{refusalOf, groundNumber, onAnswer, onPlant, shown, testOf, TestRight, testExport, worded, reduceOf, ReduceRight, Answers};
 
 // Who caused a refusal, and its number.
 pub enum Refusal {
@@ -51,67 +51,8 @@ fn unfit(mask: u64, values: u64, sizes: &[u8], d: usize) -> u32
     0
 }
 
-// The test of the two words' assignment over decoded tables, or what refuses the words.
-fn test_tables(
-    d: usize,
-    sizes: &[u8],
-    counts: &[u8],
-    lits: &[u8],
-    mask: u64,
-    values: u64,
-    limit: u32,
-) -> TestAnswer
-    requires { ⌜ Limits d (now sizes) (now counts) (now lits) ⌝ }
-    ensures { λ r. ⌜ ForPlant d (now (sizes .entry)) (now (counts .entry)) (now (lits .entry)) (λ p. testOf r ≡ onAnswer shown (onPlant p mask values (λ a. test p limit a 0))) ⌝ }
-{
-    let ground = unfit(mask, values, sizes, d);
-    if ground != 0 {
-        return TestAnswer::Refused(Refusal::Host(ground));
-    }
-    let mut sat = [0u64; 6144];
-    let mut uses = [0u64; 384];
-    let mut vals = [16u8; 48];
-    let n = sizes.len();
-    prepare(counts, lits, &mut sat, &mut uses);
-    match tested(
-        d,
-        sizes,
-        counts,
-        lits,
-        &sat,
-        &uses,
-        &mut vals[..n],
-        mask,
-        values,
-        0,
-        limit,
-    ) {
-        Answer::Consistent(t) => TestAnswer::Consistent(t),
-        Answer::Inconsistent(t) => TestAnswer::Inconsistent(t),
-        Answer::Spent(t) => TestAnswer::Spent(t),
-    }
-}
-
-// The test of the two words' assignment on the sheet's plant.
-pub fn test_call(sheet: &[u8], mask: u64, values: u64, limit: u32) -> TestAnswer
-    ensures answer { λ r. ⌜ testOf r ≡ onAnswer shown (testCall (now (sheet .entry)) mask values limit) ⌝ }
-    ensures right { λ r. ⌜ TestRight (now (sheet .entry)) mask values r ⌝ }
-{
-    let mut sizes = [0u8; 48];
-    let mut costs = [0u16; 256];
-    let mut counts = [0u8; 512];
-    let mut lits = [0u8; 23040];
-    match sheet::read(sheet, &mut sizes, &mut costs, &mut counts, &mut lits) {
-        sheet::Answer::Refused(n) => TestAnswer::Refused(Refusal::Author(n)),
-        sheet::Answer::Counts(d, s, c) => {
-            let n = d + s;
-            test_tables(d, &sizes[..n], &counts[..c], &lits, mask, values, limit)
-        }
-    }
-}
-
-// Tests the assignment that the two words hold, and reduces it where it is inconsistent.
-fn alone(
+// The test of the assignment that the two words hold: an inconsistent one is a conflict, and is reduced where a minimal one is asked for.
+fn conflict_of(
     d: usize,
     sizes: &[u8],
     counts: &[u8],
@@ -122,9 +63,10 @@ fn alone(
     mask: u64,
     values: u64,
     limit: u32,
+    minimal: bool,
 ) -> ReduceAnswer
     requires { ⌜ Ready d (now sizes) (now counts) (now lits) (now sat) (now uses) (now vals) ⌝ }
-    ensures { λ r. ⌜ ForWords d (now (sizes .entry)) (now (counts .entry)) (now (lits .entry)) mask values (λ p a. reduceOf r ≡ answered (worded (reduceAlone p limit a))) ⌝ }
+    ensures { λ r. ⌜ ForWords d (now (sizes .entry)) (now (counts .entry)) (now (lits .entry)) mask values (λ p a. Answers minimal r (answered (test p limit a 0)) (answered (reduceAlone p limit a))) ⌝ }
 {
     match tested(
         d,
@@ -142,6 +84,9 @@ fn alone(
         Answer::Consistent(t) => ReduceAnswer::None(t),
         Answer::Spent(t) => ReduceAnswer::Spent(t),
         Answer::Inconsistent(t) => {
+            if !minimal {
+                return ReduceAnswer::Conflict(mask, values, t);
+            }
             match reduce(
                 d,
                 sizes,
@@ -162,8 +107,8 @@ fn alone(
     }
 }
 
-// The reduction of the two words' assignment over decoded tables, which is tested first, or what refuses the words.
-fn reduce_tables(
+// The same over decoded tables, or what refuses the words.
+fn conflict_tables(
     d: usize,
     sizes: &[u8],
     counts: &[u8],
@@ -171,9 +116,10 @@ fn reduce_tables(
     mask: u64,
     values: u64,
     limit: u32,
+    minimal: bool,
 ) -> ReduceAnswer
     requires { ⌜ Limits d (now sizes) (now counts) (now lits) ⌝ }
-    ensures { λ r. ⌜ ForPlant d (now (sizes .entry)) (now (counts .entry)) (now (lits .entry)) (λ p. reduceOf r ≡ onAnswer worded (onPlant p mask values (λ a. reduceAlone p limit a))) ⌝ }
+    ensures { λ r. ⌜ ForPlant d (now (sizes .entry)) (now (counts .entry)) (now (lits .entry)) (λ p. Answers minimal r (onPlant p mask values (λ a. test p limit a 0)) (onPlant p mask values (λ a. reduceAlone p limit a))) ⌝ }
 {
     let ground = unfit(mask, values, sizes, d);
     if ground != 0 {
@@ -184,7 +130,7 @@ fn reduce_tables(
     let mut vals = [16u8; 48];
     let n = sizes.len();
     prepare(counts, lits, &mut sat, &mut uses);
-    alone(
+    conflict_of(
         d,
         sizes,
         counts,
@@ -195,13 +141,13 @@ fn reduce_tables(
         mask,
         values,
         limit,
+        minimal,
     )
 }
 
-// The reduction of the two words' assignment on the sheet's plant, which is tested first.
-pub fn reduce_call(sheet: &[u8], mask: u64, values: u64, limit: u32) -> ReduceAnswer
-    ensures answer { λ r. ⌜ reduceOf r ≡ onAnswer worded (reduceCall (now (sheet .entry)) mask values limit) ⌝ }
-    ensures right { λ r. ⌜ ReduceRight (now (sheet .entry)) mask values r ⌝ }
+// The same on the sheet's plant, or what refuses the sheet or the words.
+fn conflict_call(sheet: &[u8], mask: u64, values: u64, limit: u32, minimal: bool) -> ReduceAnswer
+    ensures { λ r. ⌜ Answers minimal r (testCall (now (sheet .entry)) mask values limit) (reduceCall (now (sheet .entry)) mask values limit) ⌝ }
 {
     let mut sizes = [0u8; 48];
     let mut costs = [0u16; 256];
@@ -211,9 +157,39 @@ pub fn reduce_call(sheet: &[u8], mask: u64, values: u64, limit: u32) -> ReduceAn
         sheet::Answer::Refused(n) => ReduceAnswer::Refused(Refusal::Author(n)),
         sheet::Answer::Counts(d, s, c) => {
             let n = d + s;
-            reduce_tables(d, &sizes[..n], &counts[..c], &lits, mask, values, limit)
+            conflict_tables(
+                d,
+                &sizes[..n],
+                &counts[..c],
+                &lits,
+                mask,
+                values,
+                limit,
+                minimal,
+            )
         }
     }
+}
+
+// The test of the two words' assignment on the sheet's plant.
+pub fn test_call(sheet: &[u8], mask: u64, values: u64, limit: u32) -> TestAnswer
+    ensures answer { λ r. ⌜ testOf r ≡ onAnswer shown (testCall (now (sheet .entry)) mask values limit) ⌝ }
+    ensures right { λ r. ⌜ TestRight (now (sheet .entry)) mask values r ⌝ }
+{
+    match conflict_call(sheet, mask, values, limit, false) {
+        ReduceAnswer::Refused(r) => TestAnswer::Refused(r),
+        ReduceAnswer::None(t) => TestAnswer::Consistent(t),
+        ReduceAnswer::Conflict(_, _, t) => TestAnswer::Inconsistent(t),
+        ReduceAnswer::Spent(t) => TestAnswer::Spent(t),
+    }
+}
+
+// The reduction of the two words' assignment on the sheet's plant, which is tested first.
+pub fn reduce_call(sheet: &[u8], mask: u64, values: u64, limit: u32) -> ReduceAnswer
+    ensures answer { λ r. ⌜ reduceOf r ≡ onAnswer worded (reduceCall (now (sheet .entry)) mask values limit) ⌝ }
+    ensures right { λ r. ⌜ ReduceRight (now (sheet .entry)) mask values r ⌝ }
+{
+    conflict_call(sheet, mask, values, limit, true)
 }
 
 // The number of a refusal.

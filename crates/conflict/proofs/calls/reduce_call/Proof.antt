@@ -1,102 +1,14 @@
--- `calls::reduce_call` meets its contract: the reader refuses the sheet, or leaves its plant's tables. Assumes nothing.
-use mathlib.Core.Path.{sym, ap, _∙_}
-use native.Mathlib.Omega.{arith}
+-- `calls::reduce_call` meets its contract: by what is answered, where a minimal conflict is asked for. Assumes nothing.
 use borrow.Author.Needs.{needs}
-use lib.Seq.{length-take-le}
-use Rattle.sheet.proofs.Held.{refused-by}
-use Rattle.conflict.specs.Calls.{onAnswer, worded}
-use Rattle.conflict.proofs.Asking.{reduce-refused, reduce-got, reduce-right}
-use Rattle.conflict.proofs.Given.{tabled-limits}
-use Rattle.conflict.proofs.Reading.{Opened, opened}
+use Rattle.conflict.proofs.Asking.{reduce-right}
 use Rattle.conflict.proofs.calls.reduce_call.Statement.{statement}
 use Rattle.conflict.proofs.calls.reduce_call.Tie as tie
-use Rattle.conflict.proofs.calls.reduce_call.Reads as reads
-use Rattle.conflict.proofs.calls.reduce_call.Lts as lts
-use Rattle.conflict.proofs.calls.reduce_tables.Reads as reduce-tables-reads
-use Rattle.sheet.proofs.read.Reads as read-reads
 
-slice-aggregate-read : tie.Need-slice-aggregate-read
-slice-aggregate-read c = search needs
-
-slice-aggregate-read-2 : tie.Need-slice-aggregate-read-2
-slice-aggregate-read-2 c = search needs
-
-slice-aggregate-read-3 : tie.Need-slice-aggregate-read-3
-slice-aggregate-read-3 c = search needs
-
-slice-aggregate-read-4 : tie.Need-slice-aggregate-read-4
-slice-aggregate-read-4 c = search needs
-
-read-requires : tie.Need-read-requires
-read-requires c κs = search needs
-
-enum-known-n : tie.Need-enum-known-n
-enum-known-n c = search needs
-
-enum-known-d : tie.Need-enum-known-d
-enum-known-d c = search needs
-
--- an accepted sheet's tables, where the three counts have been taken out of the reader's answer
-tables : (k : lts.After-d (read-reads.Asked, read-reads.Learnt, reduce-tables-reads.Asked, reduce-tables-reads.Learnt) reads.Pre reads.Post)
-    → Opened (k .before .before .before .before .before .before .before .before .before .before .before .before .args .sheet .now)
-    (k .before .before .before .before .before .before .read .last .1 .0) (k .before .before .before .before .before .before .read .last .1 .1 .0)
-    (k .before .before .before .before .before .before .read .last .1 .1 .1 .0) (k .before .before .before .before .before .before .read .last .1 .1 .1 .1 .0)
-    (k .d .given .0 .0) (k .d .given .0 .1 .0) (k .d .given .0 .1 .1 .0)
-tables k =
-    let r = k .before .before .before .before .before .before .read in
-    opened _ _ _ _ _ _ (r .ensures) (k .d .given .1) (r .kept .1 .0) (r .kept .1 .1 .0) (r .kept .1 .1 .1 .0) (r .kept .1 .1 .1 .1 .0)
-
-add-n : tie.Need-add-n
-add-n c = let o = tables (c .before) in record { fits = omega (arith, o .variables, c .before .before .before .before .before .before .before .read .kept .1 .0) }
-
-array-share-prefix-sizes : tie.Need-array-share-prefix-sizes
-array-share-prefix-sizes c = tables (c .before) .variables
-
-slice-aggregate-reduce-tables : tie.Need-slice-aggregate-reduce-tables
-slice-aggregate-reduce-tables c = sym (length-take-le _ _ (tables (c .before .before) .variables))
-
-array-share-prefix-counts : tie.Need-array-share-prefix-counts
-array-share-prefix-counts c = tables (c .before .before) .clauses
-
-slice-aggregate-reduce-tables-2 : tie.Need-slice-aggregate-reduce-tables-2
-slice-aggregate-reduce-tables-2 c = sym (length-take-le _ _ (tables (c .before .before .before) .clauses))
-
-slice-aggregate-reduce-tables-3 : tie.Need-slice-aggregate-reduce-tables-3
-slice-aggregate-reduce-tables-3 c = search needs
-
-reduce-tables-requires : tie.Need-reduce-tables-requires
-reduce-tables-requires c κs = tabled-limits (tables (c .before .before .before .before) .tabled)
+conflict-call-requires : tie.Need-conflict-call-requires
+conflict-call-requires c κs = search needs
 
 returns : tie.Need-returns
-returns c =
-    let s = c .before .before .before .before .before .before .before .before .before .before .before .before .before .args in
-    let r = c .before .before .before .before .before .before .before .read in
-    (sym (ap (onAnswer worded) (reduce-refused (s .sheet .now) (s .mask) (s .values) (s .limit) (refused-by _ _ _ _ _ (c .before .n .given .1) (r .ensures .0)))), λ p end h. tt)
-
-returns-2 : tie.Need-returns-2
-returns-2 c =
-    let s = c .before .before .before .before .before .before .before .before .before .before .before .before .before .before .before .before .before .args in
-    let o = tables (c .before .before .before .before .before) in
-    let e = c .reduce-tables .ensures (o .plant) _ (o .tabled) ∙ sym (ap (onAnswer worded) (reduce-got (s .sheet .now) (s .mask) (s .values) (s .limit) (o .read))) in
-    (e, reduce-right (s .sheet .now) (s .mask) (s .values) (s .limit) (c .reduce-tables .result) e)
+returns c = reduce-right _ _ _ _ (c .conflict-call .ensures)
 
 pub reduce-call-spec : {M : Type 1} → statement M
-reduce-call-spec =
-    tie.close
-    (tie.spec
-    slice-aggregate-read
-    slice-aggregate-read-2
-    slice-aggregate-read-3
-    slice-aggregate-read-4
-    read-requires
-    enum-known-n
-    enum-known-d
-    add-n
-    array-share-prefix-sizes
-    slice-aggregate-reduce-tables
-    array-share-prefix-counts
-    slice-aggregate-reduce-tables-2
-    slice-aggregate-reduce-tables-3
-    reduce-tables-requires
-    returns
-    returns-2)
+reduce-call-spec = tie.close (tie.spec conflict-call-requires returns)
