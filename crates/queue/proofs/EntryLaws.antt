@@ -1,36 +1,19 @@
 -- An entry tells its node: the mask's top bits stand in the first word, and the code of the best state keeps the node's values where the widened mask is set. Assumes nothing.
-use mathlib.Core.Path.{_≡_, refl, sym, ap, _∙_}
-use mathlib.Core.List.{List, map}
-use Prim.Native.Nat.{ℕ, _-_, _*_, _%_, _^_, _≤_}
+use mathlib.Core.Path.{_≡_, refl}
+use mathlib.Core.List.{List}
+use Prim.Native.Nat.{ℕ, _*_, _%_, _^_}
 use native.Mathlib.Omega.{arith}
-use native.Mathlib.Nat.{mul-mod-left, mul-assoc}
 use lib.Bits.{bitAnd}
-use lib.ListN.{length, length-map}
-use lib.Pow.{pow-add}
-use Rattle.model.specs.Assignment.{Assignment, Valid, bit, maskOf, valuesOf, assignmentOf}
+use lib.ListN.{length}
+use Rattle.model.specs.Assignment.{Assignment, Valid, maskOf, valuesOf, assignmentOf}
 use Rattle.model.specs.Order.{Order, best}
-use Rattle.theory.specs.Digits.{horner}
 use Rattle.theory.specs.Words.{Words, wideOf}
 use Rattle.theory.proofs.Agreement.{valid-length}
-use Rattle.theory.proofs.Digits.{horner-number}
 use Rattle.theory.proofs.Nodes.{best-in}
-use Rattle.theory.proofs.Words.{mask-below, valid-small, words-hold, words-of}
+use Rattle.theory.proofs.Words.{mask-below, mask-low, valid-small, words-hold, words-of}
 use Rattle.theory.proofs.WordsCost.{fits-below}
 use Rattle.theory.proofs.WordsParallel.{masked-word}
 use Rattle.queue.specs.Order.{Item, entryOf, Suits}
-
--- ---- the mask
-
--- the bits below the first sixteen are zero
-mask-low : (n : Assignment) → length n ≤ 16 → maskOf n % 2 ^ 48 ≡ 0
-mask-low n short =
-    let long : length (map bit n) ≡ length n = length-map n bit in
-    let parts : 2 ^ (64 - length (map bit n)) ≡ 2 ^ (16 - length n) * 2 ^ 48 = ap (λ (i : ℕ). 2 ^ i) (omega arith) ∙ pow-add 2 (16 - length n) 48 in
-    let whole : maskOf n ≡ horner 2 0 (map bit n) * 2 ^ (16 - length n) * 2 ^ 48 =
-    omega (arith, horner-number 2 64 0 (map bit n) (omega arith)) ∙ ap (λ (i : ℕ). horner 2 0 (map bit n) * i) parts ∙ sym (mul-assoc (horner 2 0 (map bit n)) (2 ^ (16 - length n)) (2 ^ 48)) in
-    rw whole (mul-mod-left (horner 2 0 (map bit n) * 2 ^ (16 - length n)) (2 ^ 48))
-
--- ---- the node
 
 -- the mask that stands in an entry
 abbrev pub maskIn : Item → ℕ

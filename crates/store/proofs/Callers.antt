@@ -4,26 +4,25 @@ use mathlib.Core.List.{List, [], _∷_}
 use Prim.Native.Nat.{ℕ, suc, _+_, _-_, _*_, _≤_, _<_}
 use native.Mathlib.Omega.{arith}
 use native.Mathlib.Nat.{sub-zero}
-use native.Mathlib.Numerals.{add-one}
 use lib.ListN.{length, getD, take, drop, set, length-take}
-use lib.Seq.{drop-cons, drop-drop, take-set-le}
+use lib.Seq.{drop-drop, take-set-le}
 use Rattle.model.specs.Assignment.{Assignment}
 use Rattle.model.specs.Listing.{Offer}
-use Rattle.model.specs.Calls.{entryWords, offersOf}
-use Rattle.store.specs.Store.{Keeps}
-use Rattle.store.proofs.Entries.{entry-length}
+use Rattle.model.specs.Calls.{offersOf}
+use Rattle.store.specs.Store.{wordsBy, wideMask, Keeps}
+use Rattle.store.proofs.Entries.{words-length, from-entry}
 
 -- ---- the conflicts kept
 
 -- every slice keeps no conflicts
 pub keeps-none : (d : ℕ) (words : List ℕ) → d ≤ 16 → Keeps d words 0 []
-unfolding entryWords
+unfolding wordsBy
 keeps-none d words h = record { narrow = h; count = refl; each = tt; same = refl }
 
 module _ {d : ℕ} {words : List ℕ} {m : ℕ} {conflicts : List Assignment} (k : Keeps d words m conflicts) where
   -- there is room for the entries
   pub keeps-room : 2 * m ≤ length words
-  keeps-room = omega (arith, k .count, entry-length conflicts, ap length (k .same), length-take (2 * m) words)
+  keeps-room = omega (arith, k .count, words-length wideMask conflicts, ap length (k .same), length-take (2 * m) words)
 
   -- words whose first 2 * m are the same keep the same conflicts
   pub keeps-first : (others : List ℕ) → take (2 * m) others ≡ take (2 * m) words → Keeps d others m conflicts
@@ -50,8 +49,7 @@ module _ (held : ℕ) (words : List ℕ) where
   unfolding offersOf
   offers-step i l h p q =
       let e : held - i ≡ suc (held - (i + 1)) = omega arith in
-      let two : 2 * (i + 1) ≡ suc (suc (2 * i)) = omega arith in
-      rw (p, q, e, two, add-one (2 * i), drop-cons words (2 * i) 0 (omega arith), drop-cons words (suc (2 * i)) 0 (omega arith))
+      rw (p, q, e, from-entry words i (omega arith))
 
   -- after the last there is none
   pub offers-end : (i : ℕ) → held ≤ i → offersFrom held words i ≡ []

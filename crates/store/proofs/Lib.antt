@@ -1,3 +1,4 @@
 pub mod Entries
 pub mod Scan
 pub mod Callers
+pub mod Clearing

@@ -1,7 +1,8 @@
 // The conflict store of a listing: conflicts in a slice that the caller lends, two words an entry, the mask first. The
 // caller counts the entries, m. Here the first m are scanned for a node, an entry is appended or read, and what stands
-// behind the entries is zeroed. `Keeps` says that the first m entries are the words of a list of conflicts over d
-// variables; for every such list each answer is an equation with the model.
+// behind the entries is zeroed. While a run lasts the masks are widened, as a scan compares them; nobody sees the words
+// until it ends, and then they are narrowed again. `Keeps` says that the first m entries are such words of a list of
+// conflicts over d variables; for every such list each answer is an equation with the model.
 ghost use mathlib.Core.Path.{_≡_};
 ghost use mathlib.Core.List.{List};
 ghost use Prim.Native.Nat.{ℕ, _+_, _*_, _≤_};
@@ -40,7 +41,7 @@ pub fn manifests_any(store: &[u64], m: usize, values: u64, wide: u64) -> bool
     let mut i = 0;
     while i < m {
         let e = entry_at(store, i);
-        any = any | words::manifests(values, wide, e.values, words::widened(e.mask));
+        any = any | words::manifests(values, wide, e.values, e.mask);
         i += 1;
     }
     any
@@ -54,8 +55,8 @@ pub fn first_unresolved(store: &[u64], m: usize, values: u64, wide: u64) -> Unre
     let mut first = 0;
     while first < m {
         let e = entry_at(store, first);
-        if !words::resolves(values, wide, e.values, words::widened(e.mask)) {
-            return Unresolved::At(e.mask, e.values);
+        if !words::resolves(values, wide, e.values, e.mask) {
+            return Unresolved::At(words::narrowed(e.mask), e.values);
         }
         first += 1;
     }
@@ -68,15 +69,29 @@ pub fn append(store: &mut [u64], m: usize, mask: u64, values: u64)
     ensures kept { λ _. ⌜ ((d : ℕ) (conflicts : List Assignment) (c : Assignment) → Keeps d (now (store .entry)) m conflicts → Words c mask values → length c ≡ d → Keeps d (now (store .exit)) (m + 1) (stored conflicts c)) ⌝ }
     ensures behind { λ _. ⌜ drop (2 * m + 2) (now (store .exit)) ≡ drop (2 * m + 2) (now (store .entry)) ⌝ }
 {
-    store[2 * m] = mask;
+    let wide = words::widened(mask);
+    store[2 * m] = wide;
     store[2 * m + 1] = values;
 }
 
-// Zeroes the words behind the m entries.
+// Narrows the masks of the m entries again.
+fn narrow_masks(store: &mut [u64], m: usize)
+    requires { ⌜ 2 * m ≤ length (now store) ⌝ }
+    ensures { λ _. ⌜ ((d : ℕ) (conflicts : List Assignment) → Keeps d (now (store .entry)) m conflicts → now (store .exit) ≡ filled (entryWords conflicts) (now (store .entry))) ⌝ }
+{
+    let mut entry = 0;
+    while entry < m {
+        store[2 * entry] = words::narrowed(store[2 * entry]);
+        entry += 1;
+    }
+}
+
+// The end of a run: narrows the masks of the m entries and zeroes the words behind them.
 pub fn clear_from(store: &mut [u64], m: usize)
     requires { ⌜ 2 * m ≤ length (now store) ⌝ }
     ensures { λ _. ⌜ ((d : ℕ) (conflicts : List Assignment) → Keeps d (now (store .entry)) m conflicts → now (store .exit) ≡ filled (entryWords conflicts) (replicate (length (now (store .entry))) 0)) ⌝ }
 {
+    narrow_masks(store, m);
     let mut word = 2 * m;
     while word < store.len() {
         store[word] = 0;

@@ -4,21 +4,22 @@ use mathlib.Core.Logic.{_↔_}
 use mathlib.Core.Bool.{true, false≢true}
 use mathlib.Core.Option.{Option, none, some}
 use mathlib.Core.List.{List, [], _∷_, _++_, map}
-use Prim.Native.Nat.{ℕ, zero, suc, _+_, _-_, _%_, _^_, _≤_, _<_}
+use Prim.Native.Nat.{ℕ, zero, suc, _+_, _-_, _*_, _%_, _^_, _≤_, _<_}
 use native.Mathlib.Omega.{arith}
-use native.Mathlib.Nat.{mod-eq-of-lt}
+use native.Mathlib.Nat.{mod-eq-of-lt, mul-mod-left, mul-assoc}
 use native.Mathlib.Numerals.{one-add}
 use lib.Count.{ones, ones-cat}
 use lib.Dec.{eqb, ltb, eqb·suc-suc}
 use lib.ListN.{length, getD, take, drop, replicate, length-replicate, length-map, length-take}
+use lib.Pow.{pow-add}
 use lib.Seq.{getD-take, drop-at}
 use borrow.Author.Tests.{ne-eqb, eqb-true, ltb-true, lt-ltb}
 use Rattle.model.specs.Lists.{All}
 use Rattle.model.specs.Digits.{number, digits}
 use Rattle.model.specs.Assignment.{Assignment, Under, Valid, bit, nibble, maskOf, valuesOf, optional, optionals, assignmentOf, allZero, nibblesFit, maskFits, valuesFit, wellFormed, isFull}
-use Rattle.theory.specs.Digits.{Below}
+use Rattle.theory.specs.Digits.{Below, horner}
 use Rattle.theory.specs.Words.{Words}
-use Rattle.theory.proofs.Digits.{digits-length, digits-below, number-below, digits-number, number-take, zero-from, number-zeros}
+use Rattle.theory.proofs.Digits.{digits-length, digits-below, number-below, digits-number, number-take, zero-from, number-zeros, horner-number}
 use Rattle.theory.proofs.Agreement.{valid-length}
 use Rattle.theory.proofs.Lists.{and-both}
 
@@ -39,6 +40,15 @@ nibbles-below (some x ∷ a) s = (s .0, nibbles-below a (s .1))
 -- a mask is a word
 pub mask-below : (a : Assignment) → maskOf a < 2 ^ 64
 mask-below a = number-below 2 64 (map bit a) (omega arith) (bits-below a)
+
+-- its bits below the first sixteen are zero
+pub mask-low : (n : Assignment) → length n ≤ 16 → maskOf n % 2 ^ 48 ≡ 0
+mask-low n short =
+    let long : length (map bit n) ≡ length n = length-map n bit in
+    let parts : 2 ^ (64 - length (map bit n)) ≡ 2 ^ (16 - length n) * 2 ^ 48 = ap (λ (i : ℕ). 2 ^ i) (omega arith) ∙ pow-add 2 (16 - length n) 48 in
+    let whole : maskOf n ≡ horner 2 0 (map bit n) * 2 ^ (16 - length n) * 2 ^ 48 =
+    omega (arith, horner-number 2 64 0 (map bit n) (omega arith)) ∙ ap (λ (i : ℕ). horner 2 0 (map bit n) * i) parts ∙ sym (mul-assoc (horner 2 0 (map bit n)) (2 ^ (16 - length n)) (2 ^ 48)) in
+    rw whole (mul-mod-left (horner 2 0 (map bit n) * 2 ^ (16 - length n)) (2 ^ 48))
 
 -- the values of an assignment with values below 16 are a word
 pub values-below : (a : Assignment) → All (Under 16) a → valuesOf a < 2 ^ 64

@@ -1,14 +1,15 @@
 -- Bit operations on numbers act on each of their digits by itself, in a base that is a power of two. Assumes nothing.
-use mathlib.Core.Path.{_≡_, refl, ap}
-use mathlib.Core.List.{List, [], _∷_}
+use mathlib.Core.Path.{_≡_, refl, sym, ap, ap₂, _∙_}
+use mathlib.Core.List.{List, [], _∷_, map}
 use Prim.Native.Nat.{ℕ, zero, suc, _+_, _*_, _^_, _<_}
 use native.Mathlib.Omega.{arith}
 use native.Mathlib.Nat.{pow-zero, pow-suc, mul-zero, mul-suc}
 use lib.Bits.{bitAnd, bitOr, bitXor, and-block, or-block, xor-block, and-lt, or-lt, xor-lt}
-use lib.ListN.{length}
+use lib.ListN.{length, length-map}
 use lib.Pow.{pow-pos, pow-add}
 use Rattle.model.specs.Digits.{number}
 use Rattle.theory.specs.Digits.{Below}
+use Rattle.theory.proofs.Lists.{all-map, all-image}
 use Rattle.theory.proofs.Digits.{number-below}
 
 -- a power of a power of two
@@ -65,3 +66,16 @@ module _ (op : ℕ → ℕ → ℕ) where
     each-number (suc k) (x ∷ xs) (y ∷ ys) l m e =
         rw (← each-number k xs ys (l .1) (m .1) (omega arith), pow-pow w k)
         (o .block (w * k) x y (number (2 ^ w) k xs) (number (2 ^ w) k ys) (rw (← pow-pow w k) (number-below (2 ^ w) k xs (pow-pos w) (l .1))) (rw (← pow-pow w k) (number-below (2 ^ w) k ys (pow-pos w) (m .1))))
+
+    module _ (b : ℕ) (f g r : ℕ → ℕ) (h : (y : ℕ) → y < b → (f y < 2 ^ w) × (g y < 2 ^ w) × (op (f y) (g y) ≡ r y)) where
+      -- on digits made of the same numbers below b
+      each-made : (ys : List ℕ) → Below b ys → each (map f ys) (map g ys) ≡ map r ys
+      each-made [] l = refl
+      each-made (y ∷ ys) l = ap₂ (λ (x : ℕ) (xs : List ℕ). x ∷ xs) (h y (l .0) .2) (each-made ys (l .1))
+
+      -- and so on two numbers of such digits
+      pub each-mapped : (k : ℕ) (ys : List ℕ) → Below b ys → op (number (2 ^ w) k (map f ys)) (number (2 ^ w) k (map g ys)) ≡ number (2 ^ w) k (map r ys)
+      each-mapped k ys l =
+          let p : Below (2 ^ w) (map f ys) = all-image f (λ d. d < 2 ^ w) ys (all-map (λ y m. h y m .0) ys l) in
+          let q : Below (2 ^ w) (map g ys) = all-image g (λ d. d < 2 ^ w) ys (all-map (λ y m. h y m .1) ys l) in
+          each-number k (map f ys) (map g ys) p q (length-map ys f ∙ sym (length-map ys g)) ∙ ap (number (2 ^ w) k) (each-made ys l)

@@ -158,6 +158,18 @@ pub fn widened(mask: u64) -> u64
     bits * 15
 }
 
+// The mask of a widened one, for sixteen variables at most: the steps of its widening backwards.
+pub fn narrowed(wide: u64) -> u64
+    ensures { λ r. ⌜ ((a : Assignment) (values : ℕ) → Wide a wide values → Words a r values) ⌝ }
+{
+    let bits = wide / 15;
+    let twos = (bits & 0x0101_0101_0101_0101) | ((bits & 0x1010_1010_1010_1010) >> 3);
+    let fours = (twos & 0x0003_0003_0003_0003) | ((twos & 0x0300_0300_0300_0300) >> 6);
+    let eights = (fours & 0x0000_000f_0000_000f) | ((fours & 0x000f_0000_000f_0000) >> 12);
+    let whole = (eights & 0x0000_0000_0000_00ff) | ((eights & 0x0000_00ff_0000_0000) >> 24);
+    whole << 48
+}
+
 // Whether a node contains a conflict, from the values and the widened mask of both.
 pub fn manifests(values: u64, wide: u64, conflict_values: u64, conflict_wide: u64) -> bool
     ensures { λ r. ⌜ ((n c : Assignment) → Wide n wide values → Wide c «conflict_wide» «conflict_values» → length n ≡ length c → r ≡ manifests n c) ⌝ }

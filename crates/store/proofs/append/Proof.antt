@@ -1,4 +1,4 @@
--- `store::append` meets its contract: two words written behind the entries are one entry more, and no word after it is written. Assumes nothing.
+-- `store::append` meets its contract: a widened mask and values written behind the entries are one entry more, and no word after it is written. Assumes nothing.
 use mathlib.Core.Path.{_∙_}
 use Prim.Native.Nat.{_+_, _*_}
 use native.Mathlib.Omega.{arith}
@@ -8,6 +8,9 @@ use lib.Seq.{drop-set-lt}
 use Rattle.store.proofs.Entries.{keeps-append}
 use Rattle.store.proofs.append.Statement.{statement}
 use Rattle.store.proofs.append.Tie as tie
+
+widened-requires : tie.Need-widened-requires
+widened-requires c κs = search needs
 
 mul-store : tie.Need-mul-store
 mul-store c = search needs
@@ -35,16 +38,18 @@ same-length c = search needs
 
 returns : tie.Need-returns
 returns c =
-    let s = c .args in (
-      λ d conflicts a k w e. keeps-append k w e (c .pre),
-      drop-set-lt (2 * s .m + 2) (set (s .store .now) (2 * s .m) (s .mask)) (2 * s .m + 1) (s .values) (omega arith)
-          ∙ drop-set-lt (2 * s .m + 2) (s .store .now) (2 * s .m) (s .mask) (omega arith),
+    let s = c .before .before .args in
+    let wide = c .widened .result in (
+      λ d conflicts a k w e. keeps-append k w e (c .widened .ensures) (c .before .before .pre),
+      drop-set-lt (2 * s .m + 2) (set (s .store .now) (2 * s .m) wide) (2 * s .m + 1) (s .values) (omega arith)
+          ∙ drop-set-lt (2 * s .m + 2) (s .store .now) (2 * s .m) wide (omega arith),
     )
 
 pub append-spec : {M : Type 1} → statement M
 append-spec =
     tie.close
     (tie.spec
+    widened-requires
     mul-store
     mul-store-2
     slice-write-store

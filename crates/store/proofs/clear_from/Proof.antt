@@ -1,10 +1,10 @@
--- `store::clear_from` meets its contract. The loop's invariant: what zeroing from here on leaves is what zeroing from the first word on leaves. Assumes nothing.
+-- `store::clear_from` meets its contract. The loop's invariant: what zeroing from here on leaves is what zeroing from behind the entries on leaves. Assumes nothing.
 use Prim.Native.Nat.{_-_, _*_}
 use mathlib.Core.Path.{_≡_, refl, sym, _∙_}
 use native.Mathlib.Omega.{arith}
 use borrow.Author.Needs.{needs}
 use lib.ListN.{length, length-set}
-use Rattle.store.proofs.Scan.{zeroed, zero-step, zero-end, zeroed-behind}
+use Rattle.store.proofs.Clearing.{zeroed, zero-step, zero-end, zeroed-behind}
 use Rattle.store.proofs.clear_from.Statement.{statement}
 use Rattle.store.proofs.clear_from.Tie as tie
 
@@ -13,6 +13,9 @@ Inv-loop store₀ m word₀ store word = (length store ≡ length store₀) × (
 
 abbrev μ-loop : tie.MeasureT-loop
 μ-loop store₀ m word₀ store word = length store₀ - word
+
+narrow-masks-requires : tie.Need-narrow-masks-requires Inv-loop μ-loop
+narrow-masks-requires c κs = search needs
 
 mul-word : tie.Need-mul-word Inv-loop μ-loop
 mul-word c = omega arith
@@ -43,7 +46,8 @@ same-length c = search needs
 returns : tie.Need-returns Inv-loop μ-loop
 returns c d conflicts k =
     let h = c .before .loop in
-    sym (zero-end (h .store) (h .word) (c .loop-test .left)) ∙ h .inv .1 ∙ zeroed-behind k
+    let narrow = c .before .before .before .before .narrow-masks in
+    sym (zero-end (h .store) (h .word) (c .loop-test .left)) ∙ h .inv .1 ∙ zeroed-behind k _ (narrow .kept .0) (narrow .ensures d conflicts k)
 
 pub clear-from-spec : {M : Type 1} → statement M
 clear-from-spec =
@@ -51,6 +55,7 @@ clear-from-spec =
     (tie.spec
     Inv-loop
     μ-loop
+    narrow-masks-requires
     mul-word
     loop-holds
     mul-store

@@ -11,7 +11,7 @@ use Rattle.model.specs.Conflict.{resolves}
 use Rattle.model.specs.Listing.{firstUnresolved}
 use Rattle.theory.specs.Words.{Wide}
 use Rattle.store.specs.Store.{Keeps}
-use Rattle.store.proofs.Entries.{keeps-words, keeps-answer}
+use Rattle.store.proofs.Entries.{keeps-wide, keeps-answer}
 use Rattle.store.proofs.Scan.{unresolved-here, unresolved-later, unresolved-end}
 use Rattle.store.proofs.first_unresolved.Statement.{statement}
 use Rattle.store.proofs.first_unresolved.Tie as tie
@@ -29,20 +29,20 @@ loop-holds c = (omega arith, λ d conflicts n k w e. refl)
 entry-at-requires : tie.Need-entry-at-requires Inv-loop μ-loop
 entry-at-requires c κs = omega arith
 
-widened-requires : tie.Need-widened-requires Inv-loop μ-loop
-widened-requires c κs = search needs
-
 resolves-requires : tie.Need-resolves-requires Inv-loop μ-loop
 resolves-requires c κs = search needs
+
+narrowed-requires : tie.Need-narrowed-requires Inv-loop μ-loop
+narrowed-requires c κs = search needs
 
 returns : tie.Need-returns Inv-loop μ-loop
 returns c d conflicts n k w e =
     let h = c .before .before .before .before .before .loop in
     let entry = c .before .before .before .entry-at .ensures in
-    let here = keeps-answer k (h .first) (omega arith) (entry .0) (entry .1) resolves (c .before .before .widened .ensures) w e (c .before .resolves .ensures) in (
+    let here = keeps-answer k (h .first) (omega arith) (entry .0) (entry .1) resolves w e (c .before .before .resolves .ensures) in (
       getD conflicts (h .first) [],
-      h .inv .1 d conflicts n k w e ∙ unresolved-here conflicts n (h .first) (omega (arith, k .count)) (sym here ∙ not-true _ (c .if1 .taken)),
-      keeps-words k (h .first) (omega arith) (entry .0) (entry .1),
+      h .inv .1 d conflicts n k w e ∙ unresolved-here conflicts n (h .first) (omega (arith, k .count)) (sym here ∙ not-true _ (c .before .if1 .taken)),
+      c .narrowed .ensures (getD conflicts (h .first) []) _ (keeps-wide k (h .first) (omega arith) (entry .0) (entry .1)),
     )
 
 add-first : tie.Need-add-first Inv-loop μ-loop
@@ -53,11 +53,11 @@ loop-less c = omega arith
 
 loop-again : tie.Need-loop-again Inv-loop μ-loop
 loop-again c =
-    let h = c .before .before .before .before .before .loop in
-    let entry = c .before .before .before .entry-at .ensures in (
+    let h = c .before .before .before .before .loop in
+    let entry = c .before .before .entry-at .ensures in (
       omega arith,
       λ d conflicts n k w e.
-          let here = keeps-answer k (h .first) (omega arith) (entry .0) (entry .1) resolves (c .before .before .widened .ensures) w e (c .before .resolves .ensures) in
+          let here = keeps-answer k (h .first) (omega arith) (entry .0) (entry .1) resolves w e (c .before .resolves .ensures) in
           h .inv .1 d conflicts n k w e ∙ unresolved-later conflicts n (h .first) (omega (arith, k .count)) (sym here ∙ not-false _ (c .if1 .left)),
     )
 
@@ -74,8 +74,8 @@ first-unresolved-spec =
     μ-loop
     loop-holds
     entry-at-requires
-    widened-requires
     resolves-requires
+    narrowed-requires
     returns
     add-first
     loop-less

@@ -29,9 +29,6 @@ loop-holds c = (omega arith, λ d conflicts n k w e. refl)
 entry-at-requires : tie.Need-entry-at-requires Inv-loop μ-loop
 entry-at-requires c κs = omega arith
 
-widened-requires : tie.Need-widened-requires Inv-loop μ-loop
-widened-requires c κs = search needs
-
 manifests-requires : tie.Need-manifests-requires Inv-loop μ-loop
 manifests-requires c κs = search needs
 
@@ -43,11 +40,11 @@ loop-less c = omega arith
 
 loop-again : tie.Need-loop-again Inv-loop μ-loop
 loop-again c =
-    let h = c .before .before .before .before .loop in
-    let entry = c .before .before .entry-at .ensures in (
+    let h = c .before .before .before .loop in
+    let entry = c .before .entry-at .ensures in (
       omega arith,
       λ d conflicts n k w e.
-          let here = keeps-answer k (h .i) (omega arith) (entry .0) (entry .1) manifests (c .before .widened .ensures) w e (c .manifests .ensures) in
+          let here = keeps-answer k (h .i) (omega arith) (entry .0) (entry .1) manifests w e (c .manifests .ensures) in
           h .inv .1 d conflicts n k w e
           ∙ rw (any-step (manifests n) conflicts (h .i) [] (omega (arith, k .count)), ← here) (sym (or-assoc (h .any) _ _)),
     )
@@ -65,7 +62,6 @@ manifests-any-spec =
     μ-loop
     loop-holds
     entry-at-requires
-    widened-requires
     manifests-requires
     add-i
     loop-less
