@@ -4,9 +4,11 @@ use mathlib.Core.Path.{_≡_, refl, sym, ap, ap₂, _∙_}
 use mathlib.Core.Bool.{true, false, not, _&&_, _||_}
 use native.Mathlib.Omega.{arith}
 use native.Mathlib.Nat.{pow-suc, mul-div-cancel, mul-mod-left, zero-min}
-use lib.Bits.{bitAnd, bitOr, bitXor, xor-shr, xor-mod, and-shr, and-mod, or-shr, or-mod, and-step, and-le-l, and-le-r, or-add-and, xor-add-and, xor-self}
+use lib.Bits.{bitAnd, bitOr, bitXor, xor-shr, xor-mod, and-shr, and-mod, or-shr, or-mod, and-step, and-mask, and-le-l, and-le-r, or-add-and, xor-add-and, xor-self}
 use lib.Dec.{eqb, eqb·suc-suc, eqb·zero-suc, eqb·suc-zero}
+use lib.Pow.{shr-shr}
 use borrow.Author.Tests.{eqb-true}
+use Rattle.theory.proofs.Lists.{and-both}
 use Rattle.consistency.specs.Sets.{bit}
 
 -- the operations on digits
@@ -76,6 +78,16 @@ and-within (suc n) a b h f =
     let low = min-digit (a % 2) (b % 2) (omega arith) (omega arith) (f 0 (omega arith)) in
     let high = and-within n (a / 2) (b / 2) (omega (arith, pow-suc 2 n)) (λ k l. f (suc k) (omega arith)) in
     and-step a b ∙ ap₂ (λ (x y : ℕ). x * 2 + y) high low ∙ omega arith
+
+-- and the other way round
+pub within-and : (a b k : ℕ) → bitAnd a b ≡ a → bit a k ≡ true → bit b k ≡ true
+within-and a b k e i = and-both (bit a k) (bit b k) (sym (bit-and a b k) ∙ ap (λ (w : ℕ). bit w k) e ∙ i) .1
+
+-- a bit as it is read: by a shift and `& 1`
+pub bit-read : (w k : ℕ) → eqb (bitAnd (w / 2 ^ k) 1) 1 ≡ bit w k
+unfolding bit
+bit-read w zero = let e : w / 1 ≡ w = omega arith in rw e (ap (λ (x : ℕ). eqb x 1) (and-mask w 1))
+bit-read w (suc k) = let e : suc k ≡ 1 + k = omega arith in rw (e, ← shr-shr w 1 k) (bit-read (w / 2) k)
 
 -- `l | (a ^ (a & b))` is 0 exactly if l is and a's bits are all among b's
 pub none-lacks : (l a b : ℕ) → bitOr l (bitXor a (bitAnd a b)) ≡ 0 → (l ≡ 0) × (bitAnd a b ≡ a)

@@ -5,7 +5,10 @@ pub mod Endings
 pub mod Filling
 pub mod FirstSets
 pub mod Marks
+pub mod PairTurns
+pub mod Pairs
 pub mod Parts
+pub mod Plans
 pub mod Rows
 pub mod Turns
 pub mod Whole

@@ -18,18 +18,18 @@ use Rattle.theory.proofs.Search.{due-set, satisfied-set, filled-next, trial-cle
 use Rattle.consistency.specs.declared.Answer.{Answer}
 use Rattle.consistency.specs.declared.Answer.the-variants.{Consistent, Inconsistent, Spent}
 use Rattle.consistency.specs.Answers.{given, Ended}
-use Rattle.consistency.specs.Sets.{inSet, SetOf, Joined, Covers}
-use Rattle.consistency.specs.Given.{Room, NextFree, Stands, Searches}
+use Rattle.consistency.specs.Sets.{SetIs, Within}
+use Rattle.consistency.specs.Given.{Bytes, NextFree, Stands, Searches}
 use Rattle.consistency.proofs.Endings.{as-consistent, as-inconsistent, as-spent, was-consistent, was-inconsistent, was-spent, moved}
 use Rattle.consistency.proofs.Bytes.{given-length, given-at, given-set, given-none, given-some, filled-values}
 
 -- ---- at the variable v
 
-module _ (sizes sat last vals : List ℕ) (v : ℕ) (room : Room sizes sat last vals v) where
+module _ (m : ℕ) (sizes : List ℕ) (inSat inDue : ℕ → ℕ → Bool) (vals : List ℕ) (v : ℕ) (room : Bytes sizes vals v) where
   -- behind the last variable all are assigned
-  all-set : v ≡ length sizes → (held : List ℕ) (used limit : ℕ) → Searches sizes sat last vals held v used limit vals (Consistent used)
+  all-set : v ≡ length sizes → (inHeld : ℕ → Bool) (used limit : ℕ) → Searches m sizes inSat inDue vals inHeld v used limit vals (Consistent used)
   unfolding explore
-  all-set e held used limit cs s =
+  all-set e inHeld used limit cs s =
       let z : length sizes - v ≡ 0 = omega arith in
       let w : v ≡ length vals = omega (arith, room .same) in
       as-consistent (explore cs limit sizes (length sizes - v) v used (map given vals)) vals vals used
@@ -42,13 +42,13 @@ module _ (sizes sat last vals : List ℕ) (v : ℕ) (room : Room sizes sat last 
     more : length sizes - v ≡ suc (length sizes - (v + 1))
     more = omega arith
 
-    pub room-next : Room sizes sat last vals (v + 1)
-    room-next = record { upto = omega arith; few = room .few; small = room .small; same = room .same; sat-long = room .sat-long; last-long = room .last-long }
+    pub room-next : Bytes sizes vals (v + 1)
+    room-next = record { upto = omega arith; few = room .few; small = room .small; same = room .same }
 
     -- a variable with a value is passed over
-    pub passed : (getD vals v 0 ≡ 16 → ⊥) → (held : List ℕ) (used limit : ℕ) (after : List ℕ) (r : Answer)
-        → Searches sizes sat last vals held (v + 1) used limit after r → Searches sizes sat last vals held v used limit after r
-    passed has held used limit after r deep cs s =
+    pub passed : (getD vals v 0 ≡ 16 → ⊥) → (inHeld : ℕ → Bool) (used limit : ℕ) (after : List ℕ) (r : Answer)
+        → Searches m sizes inSat inDue vals inHeld (v + 1) used limit after r → Searches m sizes inSat inDue vals inHeld v used limit after r
+    passed has inHeld used limit after r deep cs s =
         let is : getD (map given vals) v none ≡ some (getD vals v 0) = here ∙ given-some (getD vals v 0) has in
         moved (explore cs limit sizes (length sizes - v) v used (map given vals)) (explore cs limit sizes (length sizes - (v + 1)) (v + 1) used (map given vals)) vals after r
         (rw more (hop-skip cs limit sizes (length sizes - (v + 1)) v used (map given vals) (getD vals v 0) is))
@@ -63,40 +63,33 @@ module _ (sizes sat last vals : List ℕ) (v : ℕ) (room : Room sizes sat last 
 
 -- ---- from `from` on to the next unassigned variable v
 
-module _ (sizes sat last vals : List ℕ) (from v : ℕ) (room : Room sizes sat last vals from) (next : NextFree vals from v) where
-  pub room-at : Room sizes sat last vals v
-  room-at = record {
-    upto = omega (arith, next .upto, room .same);
-    few = room .few;
-    small = room .small;
-    same = room .same;
-    sat-long = room .sat-long;
-    last-long = room .last-long;
-  }
+module _ (m : ℕ) (sizes : List ℕ) (inSat inDue : ℕ → ℕ → Bool) (vals : List ℕ) (from v : ℕ) (room : Bytes sizes vals from) (next : NextFree vals from v) where
+  pub room-at : Bytes sizes vals v
+  room-at = record { upto = omega (arith, next .upto, room .same); few = room .few; small = room .small; same = room .same }
 
   -- the variables between have values
-  pub passed-over : (held : List ℕ) (used limit : ℕ) (after : List ℕ) (r : Answer)
-      → Searches sizes sat last vals held v used limit after r → Searches sizes sat last vals held from used limit after r
-  passed-over held used limit after r deep =
+  pub passed-over : (inHeld : ℕ → Bool) (used limit : ℕ) (after : List ℕ) (r : Answer)
+      → Searches m sizes inSat inDue vals inHeld v used limit after r → Searches m sizes inSat inDue vals inHeld from used limit after r
+  passed-over inHeld used limit after r deep =
       let e : from + (v - from) ≡ v = omega (arith, next .after) in
       go (v - from) from room (omega (arith, next .upto, room .same)) (λ u a b. next .set u a (omega arith)) (rw e deep)
     where
-      go : (n w : ℕ) → Room sizes sat last vals w → w + n ≤ length sizes → ((u : ℕ) → w ≤ u → u < w + n → getD vals u 0 ≡ 16 → ⊥)
-          → Searches sizes sat last vals held (w + n) used limit after r → Searches sizes sat last vals held w used limit after r
+      go : (n w : ℕ) → Bytes sizes vals w → w + n ≤ length sizes → ((u : ℕ) → w ≤ u → u < w + n → getD vals u 0 ≡ 16 → ⊥)
+          → Searches m sizes inSat inDue vals inHeld (w + n) used limit after r → Searches m sizes inSat inDue vals inHeld w used limit after r
       go zero w room h has deep = let e : w + 0 ≡ w = omega arith in rw e at deep
       go (suc n) w room h has deep =
           let e : w + suc n ≡ w + 1 + n = omega arith in
           let lt : w < length sizes = omega arith in
-          passed sizes sat last vals w room lt (has w (omega arith) (omega arith)) held used limit after r
-          (go n (w + 1) (room-next sizes sat last vals w room lt) (omega arith) (λ u a b. has u (omega arith) (omega arith)) (rw e at deep))
+          passed m sizes inSat inDue vals w room lt (has w (omega arith) (omega arith)) inHeld used limit after r
+          (go n (w + 1) (room-next m sizes inSat inDue vals w room lt) (omega arith) (λ u a b. has u (omega arith) (omega arith)) (rw e at deep))
 
   -- behind them no variable is left
-  pub none-left : v ≡ length sizes → (held : List ℕ) (used limit : ℕ) (r : Answer) → r ≡ Consistent used → Searches sizes sat last vals held from used limit vals r
-  none-left e held used limit r q = passed-over held used limit vals r (rw q (all-set sizes sat last vals v room-at e held used limit))
+  pub none-left : v ≡ length sizes → (inHeld : ℕ → Bool) (used limit : ℕ) (r : Answer) → r ≡ Consistent used → Searches m sizes inSat inDue vals inHeld from used limit vals r
+  none-left e inHeld used limit r q = passed-over inHeld used limit vals r (rw q (all-set m sizes inSat inDue vals v room-at e inHeld used limit))
 
 -- ---- the loop over the values of v
 
-module _ (sizes sat last vals₀ held : List ℕ) (from v used limit size : ℕ) where
+module _ (m : ℕ) (sizes : List ℕ) (inSat inDue : ℕ → ℕ → Bool) (vals₀ : List ℕ) (inHeld : ℕ → Bool) (from v used limit size : ℕ) where
   -- the assignment where the loop begins, and what the model says of it from v on, and of another from the next variable on
   abbrev a₀ : Assignment
   a₀ = map given vals₀
@@ -109,18 +102,18 @@ module _ (sizes sat last vals₀ held : List ℕ) (from v used limit size : ℕ)
 
   -- at the head of the loop, before the value x, with u trials made: the values from x on decide
   pub record Turn (vals : List ℕ) (u x : ℕ) : Type 0 where
-    pub room : Room sizes sat last vals₀ v
+    pub room : Bytes sizes vals₀ v
     pub below : v < length sizes
     pub free : getD vals₀ v 0 ≡ 16
     pub sized : size ≡ getD sizes v 0
     pub upto : x ≤ size
     pub long : length vals ≡ length vals₀
-    pub over : (after : List ℕ) (r : Answer) → Searches sizes sat last vals₀ held v used limit after r → Searches sizes sat last vals₀ held from used limit after r
-    pub back : (cs : List (List Literal)) → Stands cs sat last vals₀ held v → set vals v 16 ≡ vals₀
-    pub says : (cs : List (List Literal)) → Stands cs sat last vals₀ held v → Says cs ≡ tryValues cs limit (deeper cs) v a₀ (size - x) x u
+    pub over : (after : List ℕ) (r : Answer) → Searches m sizes inSat inDue vals₀ inHeld v used limit after r → Searches m sizes inSat inDue vals₀ inHeld from used limit after r
+    pub back : (cs : List (List Literal)) → Stands m cs inSat inDue vals₀ inHeld v → set vals v 16 ≡ vals₀
+    pub says : (cs : List (List Literal)) → Stands m cs inSat inDue vals₀ inHeld v → Says cs ≡ tryValues cs limit (deeper cs) v a₀ (size - x) x u
 
   -- the first turn
-  pub turn-first : Room sizes sat last vals₀ from → NextFree vals₀ from v → (v ≡ length sizes → ⊥) → size ≡ getD sizes v 0 → Turn vals₀ used 0
+  pub turn-first : Bytes sizes vals₀ from → NextFree vals₀ from v → (v ≡ length sizes → ⊥) → size ≡ getD sizes v 0 → Turn vals₀ used 0
   turn-first start next n sized = record {
     room = room;
     below = lt;
@@ -128,16 +121,16 @@ module _ (sizes sat last vals₀ held : List ℕ) (from v used limit size : ℕ)
     sized = sized;
     upto = omega arith;
     long = refl;
-    over = passed-over sizes sat last vals₀ from v start next held used limit;
+    over = passed-over m sizes inSat inDue vals₀ from v start next inHeld used limit;
     back = λ cs s. ap (set vals₀ v) (sym free) ∙ set-getD vals₀ v 0;
     says = λ cs s.
         let z : size - 0 ≡ getD sizes v 0 = omega arith in
-        rw (more sizes sat last vals₀ v room lt, z)
-        (hop-try cs limit sizes (length sizes - (v + 1)) v used a₀ (here sizes sat last vals₀ v room lt ∙ given-none (getD vals₀ v 0) free));
+        rw (more m sizes inSat inDue vals₀ v room lt, z)
+        (hop-try cs limit sizes (length sizes - (v + 1)) v used a₀ (here m sizes inSat inDue vals₀ v room lt ∙ given-none (getD vals₀ v 0) free));
   }
     where
-      room : Room sizes sat last vals₀ v
-      room = room-at sizes sat last vals₀ from v start next
+      room : Bytes sizes vals₀ v
+      room = room-at m sizes inSat inDue vals₀ from v start next
 
       lt : v < length sizes
       lt = omega (arith, next .upto, start .same)
@@ -147,7 +140,7 @@ module _ (sizes sat last vals₀ held : List ℕ) (from v used limit size : ℕ)
 
   module _ (vals : List ℕ) (u x : ℕ) (t : Turn vals u x) where
     -- every value was tried
-    pub turn-end : size ≤ x → (r : Answer) → r ≡ Inconsistent u → Searches sizes sat last vals₀ held from used limit (set vals v 16) r
+    pub turn-end : size ≤ x → (r : Answer) → r ≡ Inconsistent u → Searches m sizes inSat inDue vals₀ inHeld from used limit (set vals v 16) r
     unfolding tryValues
     turn-end h r e =
         let z : size - x ≡ 0 = omega arith in
@@ -158,7 +151,7 @@ module _ (sizes sat last vals₀ held : List ℕ) (from v used limit size : ℕ)
       left = omega arith
 
       -- no trial is left
-      pub turn-stop : limit ≤ u → (r : Answer) → r ≡ Spent u → Searches sizes sat last vals₀ held from used limit (set vals v 16) r
+      pub turn-stop : limit ≤ u → (r : Answer) → r ≡ Spent u → Searches m sizes inSat inDue vals₀ inHeld from used limit (set vals v 16) r
       turn-stop h r e =
           t .over (set vals v 16) r
           (λ cs s. rw e (as-spent (Says cs) vals₀ (set vals v 16) u (t .says cs s ∙ rw left (turn-spent cs limit (deeper cs) v a₀ (size - (x + 1)) x u h)) (t .back cs s)))
@@ -167,19 +160,12 @@ module _ (sizes sat last vals₀ held : List ℕ) (from v used limit size : ℕ)
       value = omega (arith, t .room .small v, t .sized)
 
       -- the row of the table that the turn reads
-      pub row-within : (v * 16 + x) * 8 + 8 ≤ length sat
-      row-within = omega (arith, value, t .below, t .room .few, t .room .sat-long)
+      pub row-within : (v * 16 + x) * 8 + 8 ≤ 6144
+      row-within = omega (arith, value, t .below, t .room .few)
 
-      -- the room after a trial
-      pub room-set : Room sizes sat last (set vals v x) (v + 1)
-      room-set = record {
-        upto = omega (arith, t .below);
-        few = t .room .few;
-        small = t .room .small;
-        same = length-set vals v x ∙ t .long ∙ t .room .same;
-        sat-long = t .room .sat-long;
-        last-long = t .room .last-long;
-      }
+      -- the bytes after a trial
+      pub room-set : Bytes sizes (set vals v x) (v + 1)
+      room-set = record { upto = omega (arith, t .below); few = t .room .few; small = t .room .small; same = length-set vals v x ∙ t .long ∙ t .room .same }
 
       -- the assignment after the trial of x
       abbrev a : Assignment
@@ -187,7 +173,7 @@ module _ (sizes sat last vals₀ held : List ℕ) (from v used limit size : ℕ)
 
       -- what the sets say after it
       module _ (ul : u < limit) (row : ℕ) (r : Bool) (at-row : row ≡ v * 16 + x)
-          (covers : Covers last v (λ c. inSet held 0 c || inSet sat row c) r) (cs : List (List Literal)) (s : Stands cs sat last vals₀ held v) where
+          (covers : Within m (inDue v) (λ c. inHeld c || inSat row c) r) (cs : List (List Literal)) (s : Stands m cs inSat inDue vals₀ inHeld v) where
         placed : map given (set vals v x) ≡ a
         placed =
             ap (map given) (sym (ap (λ (l : List ℕ). set l v x) (sym (t .back cs s)) ∙ set-set vals v 16 x))
@@ -197,20 +183,20 @@ module _ (sizes sat last vals₀ held : List ℕ) (from v used limit size : ℕ)
         inside₀ = omega (arith, given-length vals₀, t .room .same, t .below)
 
         free₀ : getD a₀ v none ≡ none
-        free₀ = here sizes sat last vals₀ v (t .room) (t .below) ∙ given-none (getD vals₀ v 0) (t .free)
+        free₀ = here m sizes inSat inDue vals₀ v (t .room) (t .below) ∙ given-none (getD vals₀ v 0) (t .free)
 
-        holds-now : (c : ℕ) → c < 512 → (inSet held 0 c || inSet sat row c) ≡ satisfied a (nth cs c)
+        holds-now : (c : ℕ) → c < m → (inHeld c || inSat row c) ≡ satisfied a (nth cs c)
         holds-now c h =
-            ap₂ _||_ (s .holds .has c h) (ap (λ (k : ℕ). inSet sat k c) at-row ∙ s .satisfies v x (omega (arith, t .below, t .room .few)) value .has c h)
+            ap₂ _||_ (s .holds .has c h) (ap (λ (k : ℕ). inSat k c) at-row ∙ s .satisfies v x (omega (arith, t .below, t .room .few)) value .has c h)
             ∙ sym (satisfied-set a₀ v x inside₀ free₀ (nth cs c))
 
-        dues : SetOf (due a₀ v) cs last v
+        dues : SetIs m (due a₀ v) cs (inDue v)
         dues = s .dues .has v (omega arith) (omega (arith, t .room .same, t .below)) free₀
 
         -- the test passes exactly if no clause is false
         clear : r ≡ true → anyFalse a cs ≡ false
         clear e = trial-clear cs a₀ v x inside₀ free₀ (s .filled) (s .clear)
-            (λ c l d. let b : c < 512 = omega (arith, s .many) in sym (holds-now c b) ∙ covers .all e c b (dues .has c b ∙ d))
+            (λ c l d. let b : c < m = omega (arith, s .many) in sym (holds-now c b) ∙ covers .all e c b (dues .has c b ∙ d))
 
         shut : r ≡ false → anyFalse a cs ≡ true
         shut e = go (anyFalse a cs) refl
@@ -220,17 +206,17 @@ module _ (sizes sat last vals₀ held : List ℕ) (from v used limit size : ℕ)
             go false q = absurd (true≢false (sym (covers .only (λ c b i. holds-now c b ∙ trial-satisfied cs a₀ v x inside₀ free₀ (s .filled) q c (sym (dues .has c b) ∙ i))) ∙ e))
 
         -- where it passes, the search stands at the next variable
-        stands-set : r ≡ true → (joined : List ℕ) → Joined held sat row true joined → Stands cs sat last (set vals v x) joined (v + 1)
-        stands-set e joined joins = record {
+        stands-set : r ≡ true → (inMore : ℕ → Bool) → ((c : ℕ) → c < m → inMore c ≡ (inHeld c || inSat row c)) → Stands m cs inSat inDue (set vals v x) inMore (v + 1)
+        stands-set e inMore joins = record {
           many = s .many;
           satisfies = s .satisfies;
           dues = record { has = λ w h l f. rw placed (next w h l (rw placed at f)) };
-          holds = record { has = λ c h. rw placed (joins .has c h ∙ holds-now c h) };
+          holds = record { has = λ c h. rw placed (joins c h ∙ holds-now c h) };
           filled = rw placed (filled-next a₀ v x inside₀ free₀ (s .filled));
           clear = rw placed (clear e);
         }
           where
-            next : (w : ℕ) → v + 1 ≤ w → w < length (set vals v x) → getD a w none ≡ none → SetOf (due a w) cs last w
+            next : (w : ℕ) → v + 1 ≤ w → w < length (set vals v x) → getD a w none ≡ none → SetIs m (due a w) cs (inDue w)
             next w h l f = record {
               has = λ c b. s .dues .has w (omega arith) (omega (arith, length-set vals v x, t .long)) (sym (getD-set-other a₀ v w (some x) none (λ e. omega arith)) ∙ f) .has c b
                   ∙ sym (due-set a₀ v x inside₀ free₀ w (omega arith) (nth cs c));
@@ -252,7 +238,7 @@ module _ (sizes sat last vals₀ held : List ℕ) (from v used limit size : ℕ)
 
       -- on to the next value, with the assignment and the trials as they are now
       again : (vals′ : List ℕ) (u′ : ℕ) → length vals′ ≡ length (set vals v x)
-          → ((cs : List (List Literal)) → Stands cs sat last vals₀ held v → (vals′ ≡ set vals v x) × (Says cs ≡ tryValues cs limit (deeper cs) v a₀ (size - (x + 1)) (x + 1) u′))
+          → ((cs : List (List Literal)) → Stands m cs inSat inDue vals₀ inHeld v → (vals′ ≡ set vals v x) × (Says cs ≡ tryValues cs limit (deeper cs) v a₀ (size - (x + 1)) (x + 1) u′))
           → Turn vals′ u′ (x + 1)
       again vals′ u′ p k = record {
         room = t .room;
@@ -266,17 +252,17 @@ module _ (sizes sat last vals₀ held : List ℕ) (from v used limit size : ℕ)
         says = λ cs s. k cs s .1;
       }
 
-      module _ (ul : u < limit) (row : ℕ) (r : Bool) (at-row : row ≡ v * 16 + x) (covers : Covers last v (λ c. inSet held 0 c || inSet sat row c) r) where
+      module _ (ul : u < limit) (row : ℕ) (r : Bool) (at-row : row ≡ v * 16 + x) (covers : Within m (inDue v) (λ c. inHeld c || inSat row c) r) where
         -- the test failed
         pub turn-again : r ≡ false → (vals′ : List ℕ) (u′ : ℕ) → vals′ ≡ set vals v x → u′ ≡ u + 1 → Turn vals′ u′ (x + 1)
         turn-again e vals′ u′ p q = again vals′ u′ (ap length p) (λ cs s. (p, rw q (tried-next ul row r at-row covers cs s e)))
 
         -- the test passed, and the search from the next variable on ended
-        module _ (passes : r ≡ true) (joined : List ℕ) (joins : Joined held sat row true joined) (after : List ℕ) (b : Answer) (n : ℕ)
-            (deep : Searches sizes sat last (set vals v x) joined (v + 1) (u + 1) limit after b) where
-          module _ (cs : List (List Literal)) (s : Stands cs sat last vals₀ held v) where
+        module _ (passes : r ≡ true) (inMore : ℕ → Bool) (joins : (c : ℕ) → c < m → inMore c ≡ (inHeld c || inSat row c)) (after : List ℕ) (b : Answer) (n : ℕ)
+            (deep : Searches m sizes inSat inDue (set vals v x) inMore (v + 1) (u + 1) limit after b) where
+          module _ (cs : List (List Literal)) (s : Stands m cs inSat inDue vals₀ inHeld v) where
             ended : Ended (deeper cs (u + 1) (map given (set vals v x))) (set vals v x) after b
-            ended = deep cs (stands-set ul row r at-row covers cs s passes joined joins)
+            ended = deep cs (stands-set ul row r at-row covers cs s passes inMore joins)
 
             says-deeper : (d : Tested) → deeper cs (u + 1) (map given (set vals v x)) ≡ d → Says cs ≡ orElse d (tryValues cs limit (deeper cs) v a₀ (size - (x + 1)) (x + 1))
             says-deeper = tried-deeper ul row r at-row covers cs s passes
@@ -300,10 +286,10 @@ module _ (sizes sat last vals₀ held : List ℕ) (from v used limit size : ℕ)
                 let e = was-inconsistent (deeper cs (u + 1) (map given (set vals v x))) (set vals v x) after n b ended q in
                 (e .1, says-deeper (inconsistent n) (e .0))
 
-          pub deep-found : b ≡ Consistent n → (a : Answer) → a ≡ Consistent n → Searches sizes sat last vals₀ held from used limit after a
+          pub deep-found : b ≡ Consistent n → (a : Answer) → a ≡ Consistent n → Searches m sizes inSat inDue vals₀ inHeld from used limit after a
           deep-found q a e = t .over after a (λ cs s. rw e (found cs s q))
 
-          pub deep-stop : b ≡ Spent n → (a : Answer) → a ≡ Spent n → Searches sizes sat last vals₀ held from used limit (set after v 16) a
+          pub deep-stop : b ≡ Spent n → (a : Answer) → a ≡ Spent n → Searches m sizes inSat inDue vals₀ inHeld from used limit (set after v 16) a
           deep-stop q a e = t .over (set after v 16) a (λ cs s. rw e (stopped cs s q))
 
           pub deep-again : b ≡ Inconsistent n → length after ≡ length (set vals v x) → (vals′ : List ℕ) (u′ : ℕ) → vals′ ≡ after → u′ ≡ n → Turn vals′ u′ (x + 1)

@@ -1,18 +1,25 @@
 -- The whole test: from what it is given to where the search starts. Assumes nothing.
-use mathlib.Core.Path.{_≡_, refl}
-use mathlib.Core.Bool.{true, false}
+use mathlib.Core.Path.{_≡_, refl, sym, _∙_}
+use mathlib.Core.Bool.{Bool, true, false, not, _||_, true≢false}
 use mathlib.Core.List.{List, map}
-use Prim.Native.Nat.{ℕ, _-_}
+use Prim.Native.Nat.{ℕ, _-_, _≤_}
 use native.Mathlib.Omega.{arith}
+use native.Mathlib.Decide.{decLt}
 use lib.ListN.{length}
-use Rattle.model.specs.Consistency.{anyFalse, explore}
+use Rattle.model.specs.Consistency.{clauseFalse, anyFalse, explore}
 use Rattle.theory.specs.Tables.{clauses}
+use Rattle.theory.specs.Search.{nth, satisfied}
+use Rattle.theory.proofs.Search.{false-filled}
 use Rattle.theory.proofs.TableClauses.{clauses-length}
 use Rattle.consistency.specs.declared.Answer.{Answer}
 use Rattle.consistency.specs.declared.Answer.the-variants.{Inconsistent}
 use Rattle.consistency.specs.Answers.{given, testOver, Ended}
-use Rattle.consistency.specs.Given.{Tables, Given, Lent, Starts, Room, Searches}
+use Rattle.consistency.specs.Sets.{inSet, inPair}
+use Rattle.consistency.specs.Given.{Tables, Given, Lent, Starts, Bytes, Searches, inPlan, Planned, PlanRoom}
 use Rattle.consistency.proofs.Endings.{as-inconsistent, moved}
+use Rattle.consistency.proofs.FirstSets.{from-end}
+use Rattle.consistency.proofs.Pairs.{pair-past}
+use Rattle.consistency.proofs.Turns.{passed-over}
 
 module _ (sizes counts lits sat uses vals : List ℕ) (g : Given sizes counts lits sat uses vals) where
   -- the first question is asked of the same tables
@@ -20,25 +27,18 @@ module _ (sizes counts lits sat uses vals : List ℕ) (g : Given sizes counts li
   tables-vals = rw (g .same) (g .tables)
 
   -- the first sets are made of what is lent
-  pub lent-first : (last : List ℕ) → length last ≡ 384 → Lent vals sat uses last
-  lent-first last e = record {
+  pub lent-first : (made : List ℕ) → Lent (length made) vals sat uses made
+  lent-first made = record {
     few = omega (arith, g .few, g .same);
     bytes = g .bytes;
     sat-long = g .ready .sat-long;
     uses-long = g .ready .uses-long;
-    last-long = omega arith;
+    long = omega arith;
   }
 
-  -- the search has its room
-  pub room-first : (last : List ℕ) → length last ≡ 384 → Room sizes sat last vals 0
-  room-first last e = record {
-    upto = omega arith;
-    few = g .few;
-    small = g .small;
-    same = g .same;
-    sat-long = g .ready .sat-long;
-    last-long = omega arith;
-  }
+  -- the search has its bytes
+  pub bytes-first : Bytes sizes vals 0
+  bytes-first = record { upto = omega arith; few = g .few; small = g .small; same = g .same }
 
   module _ (limit used : ℕ) where
     -- a clause is false at once
@@ -47,21 +47,54 @@ module _ (sizes counts lits sat uses vals : List ℕ) (g : Given sizes counts li
     at-once e = as-inconsistent (testOver (clauses counts lits) sizes limit used (map given vals)) vals vals used (rw (testOver, e)) refl
 
     -- none is: the search from variable 0 decides
-    pub searched : anyFalse (map given vals) (clauses counts lits) ≡ false → (last held after : List ℕ) (r : Answer)
-        → Starts vals sat uses last held → Searches sizes sat last vals held 0 used limit after r
+    pub searched : (m : ℕ) → length counts ≤ m → m ≤ 512 → anyFalse (map given vals) (clauses counts lits) ≡ false
+        → (inDue : ℕ → ℕ → Bool) (inHeld : ℕ → Bool) (after : List ℕ) (r : Answer)
+        → Starts m vals sat uses inDue inHeld → Searches m sizes (inSet sat) inDue vals inHeld 0 used limit after r
         → Ended (testOver (clauses counts lits) sizes limit used (map given vals)) vals after r
     unfolding testOver
-    searched e last held after r start deep =
+    searched m few most e inDue inHeld after r start deep =
         let cs = clauses counts lits in
         let z : length sizes - 0 ≡ length sizes = omega arith in
         let s = start cs record { below = tables-vals .below; ready = g .ready } in
         moved (testOver cs sizes limit used (map given vals)) (explore cs limit sizes (length sizes - 0) 0 used (map given vals)) vals after r
         (rw (testOver, e, z))
         (deep cs record {
-          many = omega (arith, clauses-length counts lits, g .tables .most);
-          satisfies = g .ready .satisfies;
+          many = omega (arith, clauses-length counts lits);
+          satisfies = λ u x h l. record { has = λ c b. g .ready .satisfies u x h l .has c (omega arith) };
           dues = s .dues;
           holds = s .holds;
           filled = tt;
           clear = e;
         })
+
+  -- ---- on sets of two words
+
+  module _ (few : length counts ≤ 128) (plan : List ℕ) (first : ℕ) (inHeld : ℕ → Bool) (open1 open2 : ℕ) (p : Planned vals sat uses plan first inHeld (inPair open1 open2) 0) where
+    -- a clause that is left open is not false
+    pub open-clear : (c : ℕ) → inPair open1 open2 c ≡ true → clauseFalse (map given vals) (nth (clauses counts lits) c) ≡ false
+    open-clear c e = elim (decLt c 128) [
+      | yes l ↦ false-filled (map given vals) (nth (clauses counts lits) c) 0 tt
+          ∙ rw (sym (p .sets (clauses counts lits) record { below = tables-vals .below; ready = g .ready } .waiting .has c l) ∙ e) (either (satisfied (map given vals) (nth (clauses counts lits) c)))
+      | no l ↦ absurd (true≢false (sym e ∙ pair-past open1 open2 c (omega arith)))
+    ]
+      where
+        either : (b : Bool) → not (b || true) ≡ false
+        either true = refl
+        either false = refl
+
+    -- the search has its room at the first unassigned variable
+    pub room-planned : 144 ≤ length plan → PlanRoom sizes sat plan vals first
+    room-planned long = record {
+      bytes = record { upto = omega (arith, p .next .upto, g .same); few = g .few; small = g .small; same = g .same };
+      sat-long = g .ready .sat-long;
+      plan-long = long;
+      free = λ l. p .next .free (omega (arith, g .same));
+      nexts = record { at = λ u a. p .nexts .at u (omega arith) };
+    }
+
+    -- and what it says there decides
+    pub planned-searched : (limit used : ℕ) → anyFalse (map given vals) (clauses counts lits) ≡ false → (after : List ℕ) (r : Answer)
+        → Searches 128 sizes (inSet sat) (inPlan plan) vals inHeld first used limit after r → Ended (testOver (clauses counts lits) sizes limit used (map given vals)) vals after r
+    planned-searched limit used e after r deep = searched limit used 128 few (omega arith) e (inPlan plan) inHeld after r
+        (λ cs k. from-end 128 vals cs (inPlan plan) inHeld (inPair open1 open2) (p .sets cs k))
+        (passed-over 128 sizes (inSet sat) (inPlan plan) vals 0 first bytes-first (p .next) inHeld used limit after r deep)

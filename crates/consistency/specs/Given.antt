@@ -1,6 +1,6 @@
 -- What is given to the test and its parts: tables within the limits, and the sets made of them. Assumes nothing: these are definitions.
 use mathlib.Core.Path.{_≡_}
-use mathlib.Core.Bool.{false}
+use mathlib.Core.Bool.{Bool, false}
 use mathlib.Core.Option.{none}
 use mathlib.Core.List.{List, map}
 use Prim.Native.Nat.{ℕ, _+_, _-_, _*_, _<_, _≤_}
@@ -9,11 +9,12 @@ use Rattle.model.specs.Lists.{All}
 use Rattle.model.specs.Sheet.{Literal}
 use Rattle.model.specs.Consistency.{anyFalse, explore}
 use Rattle.theory.specs.Tables.{clauses, total}
-use Rattle.theory.specs.Search.{mentions, satisfiedAt, satisfied, due}
+use Rattle.theory.specs.Search.{mentions, satisfiedAt, satisfied, satisfiedFrom, waits, due}
 use Rattle.theory.specs.Nodes.{Filled}
 use Rattle.consistency.specs.Answers.{given, Ended}
-use Rattle.consistency.specs.Sets.{SetOf}
+use Rattle.consistency.specs.Sets.{inWords, SetIs, SetOf}
 use Rattle.consistency.specs.declared.Answer.{Answer}
+use Rattle.consistency.specs.declared.Answer.the-variants.{Inconsistent}
 
 -- ---- the tables
 
@@ -41,42 +42,37 @@ pub record Given (sizes counts lits sat uses vals : List ℕ) : Type 0 where
 
 -- ---- before the search
 
--- what is lent to make its first sets
-pub record Lent (vals sat uses last : List ℕ) : Type 0 where
+-- what is lent to make its first sets, with so many words for those that are made
+pub record Lent (words : ℕ) (vals sat uses made : List ℕ) : Type 0 where
   pub few : length vals ≤ 48
   pub bytes : (v : ℕ) → getD vals v 0 ≤ 16
   pub sat-long : 6144 ≤ length sat
   pub uses-long : 384 ≤ length uses
-  pub last-long : 384 ≤ length last
+  pub long : words ≤ length made
 
 -- the clauses that the tables are made of
 pub record Clauses (cs : List (List Literal)) (vals sat uses : List ℕ) : Type 0 where
   pub below : All (All (λ l. l .variable < length vals)) cs
   pub ready : Prepared cs sat uses
 
--- from v on, the row of each unassigned variable holds the clauses that are due at it
-pub record DueFrom (cs : List (List Literal)) (vals last : List ℕ) (v : ℕ) : Type 0 where
-  pub has : (u : ℕ) → v ≤ u → u < length vals → getD (map given vals) u none ≡ none → SetOf (due (map given vals) u) cs last u
+-- from v on, at each unassigned variable the clauses that are due at it
+pub record DueFrom (m : ℕ) (cs : List (List Literal)) (vals : List ℕ) (inDue : ℕ → ℕ → Bool) (v : ℕ) : Type 0 where
+  pub has : (u : ℕ) → v ≤ u → u < length vals → getD (map given vals) u none ≡ none → SetIs m (due (map given vals) u) cs (inDue u)
+
+-- the sets of the variables from v on: the clauses that are due at each, those that these variables satisfy, and those that one of them leaves open
+pub record SetsFrom (m : ℕ) (cs : List (List Literal)) (vals : List ℕ) (inDue : ℕ → ℕ → Bool) (inHeld inOpen : ℕ → Bool) (v : ℕ) : Type 0 where
+  pub dues : DueFrom m cs vals inDue v
+  pub holds : SetIs m (satisfiedFrom (map given vals) v) cs inHeld
+  pub waiting : SetIs m (waits (map given vals) v) cs inOpen
 
 -- what is made: the clauses that are due at each variable, and those that are satisfied
-pub record Started (cs : List (List Literal)) (vals last held : List ℕ) : Type 0 where
-  pub dues : DueFrom cs vals last 0
-  pub holds : SetOf (satisfied (map given vals)) cs held 0
+pub record Started (m : ℕ) (cs : List (List Literal)) (vals : List ℕ) (inDue : ℕ → ℕ → Bool) (inHeld : ℕ → Bool) : Type 0 where
+  pub dues : DueFrom m cs vals inDue 0
+  pub holds : SetIs m (satisfied (map given vals)) cs inHeld
 
 -- for any clauses that the tables are made of
-abbrev pub Starts : (vals sat uses last held : List ℕ) → Type 0
-Starts vals sat uses last held = (cs : List (List Literal)) → Clauses cs vals sat uses → Started cs vals last held
-
--- ---- the search at the variable v
-
--- the room that it has
-pub record Room (sizes sat last vals : List ℕ) (v : ℕ) : Type 0 where
-  pub upto : v ≤ length sizes
-  pub few : length sizes ≤ 48
-  pub small : (u : ℕ) → getD sizes u 0 ≤ 16
-  pub same : length vals ≡ length sizes
-  pub sat-long : 6144 ≤ length sat
-  pub last-long : 384 ≤ length last
+abbrev pub Starts : (m : ℕ) (vals sat uses : List ℕ) (inDue : ℕ → ℕ → Bool) (inHeld : ℕ → Bool) → Type 0
+Starts m vals sat uses inDue inHeld = (cs : List (List Literal)) → Clauses cs vals sat uses → Started m cs vals inDue inHeld
 
 -- v is the first unassigned variable from `from` on, or their number
 pub record NextFree (vals : List ℕ) (from v : ℕ) : Type 0 where
@@ -85,17 +81,60 @@ pub record NextFree (vals : List ℕ) (from v : ℕ) : Type 0 where
   pub set : (u : ℕ) → from ≤ u → u < v → getD vals u 0 ≡ 16 → ⊥
   pub free : v < length vals → getD vals v 0 ≡ 16
 
--- where it stands: the variables before v are assigned, no clause is false, and the sets are those of this assignment
-pub record Stands (cs : List (List Literal)) (sat last vals held : List ℕ) (v : ℕ) : Type 0 where
-  pub many : length cs ≤ 512
-  pub satisfies : (u x : ℕ) → u < 48 → x < 16 → SetOf (satisfiedAt u x) cs sat (u * 16 + x)
-  pub dues : DueFrom cs vals last v
-  pub holds : SetOf (satisfied (map given vals)) cs held 0
+-- ---- the search at the variable v
+
+-- a byte for each variable
+pub record Bytes (sizes vals : List ℕ) (v : ℕ) : Type 0 where
+  pub upto : v ≤ length sizes
+  pub few : length sizes ≤ 48
+  pub small : (u : ℕ) → getD sizes u 0 ≤ 16
+  pub same : length vals ≡ length sizes
+
+-- the room that it has
+pub record Room (sizes sat last vals : List ℕ) (v : ℕ) : Type 0 where
+  pub bytes : Bytes sizes vals v
+  pub sat-long : 6144 ≤ length sat
+  pub last-long : 384 ≤ length last
+
+-- where it stands: the variables before v are assigned, no clause is false, and of the first m clauses the sets are those of this assignment
+pub record Stands (m : ℕ) (cs : List (List Literal)) (inSat inDue : ℕ → ℕ → Bool) (vals : List ℕ) (inHeld : ℕ → Bool) (v : ℕ) : Type 0 where
+  pub many : length cs ≤ m
+  pub satisfies : (u x : ℕ) → u < 48 → x < 16 → SetIs m (satisfiedAt u x) cs (inSat (u * 16 + x))
+  pub dues : DueFrom m cs vals inDue v
+  pub holds : SetIs m (satisfied (map given vals)) cs inHeld
   pub filled : Filled v (map given vals)
   pub clear : anyFalse (map given vals) cs ≡ false
 
 -- for any clauses with which it stands there, it ends as the model's search through the variables from v on
-abbrev pub Searches : (sizes sat last vals held : List ℕ) (v used limit : ℕ) (after : List ℕ) → Answer → Type 0
-Searches sizes sat last vals held v used limit after r =
-    (cs : List (List Literal)) → Stands cs sat last vals held v
+abbrev pub Searches : (m : ℕ) (sizes : List ℕ) (inSat inDue : ℕ → ℕ → Bool) (vals : List ℕ) (inHeld : ℕ → Bool) (v used limit : ℕ) (after : List ℕ) → Answer → Type 0
+Searches m sizes inSat inDue vals inHeld v used limit after r =
+    (cs : List (List Literal)) → Stands m cs inSat inDue vals inHeld v
     → Ended (explore cs limit sizes (length sizes - v) v used (map given vals)) vals after r
+
+-- ---- of at most 128 clauses, whose sets are two words
+
+-- whether the clause c is due at the variable v: a row of the plan is the next unassigned variable and the two words of the set
+unfoldable pub inPlan : List ℕ → ℕ → ℕ → Bool
+inPlan plan v c = inWords plan (v * 3 + 1) c
+
+-- each unassigned variable from v on has the next one in its row
+pub record Nexts (plan vals : List ℕ) (v : ℕ) : Type 0 where
+  pub at : (u : ℕ) → v ≤ u → u < length vals → getD vals u 0 ≡ 16 → NextFree vals (u + 1) (getD plan (u * 3) 0)
+
+-- what is made from v on: the plan, the clauses that are satisfied and those that are left open, and the first unassigned variable
+pub record Planned (vals sat uses plan : List ℕ) (first : ℕ) (inHeld inOpen : ℕ → Bool) (v : ℕ) : Type 0 where
+  pub next : NextFree vals v first
+  pub nexts : Nexts plan vals v
+  pub sets : (cs : List (List Literal)) → Clauses cs vals sat uses → SetsFrom 128 cs vals (inPlan plan) inHeld inOpen v
+
+-- the room that its search has at the unassigned variable v
+pub record PlanRoom (sizes sat plan vals : List ℕ) (v : ℕ) : Type 0 where
+  pub bytes : Bytes sizes vals v
+  pub sat-long : 6144 ≤ length sat
+  pub plan-long : 144 ≤ length plan
+  pub free : v < length sizes → getD vals v 0 ≡ 16
+  pub nexts : Nexts plan vals v
+
+-- where no value fits, the bytes are as they came
+abbrev pub Restored : (vals after : List ℕ) → Answer → Type 0
+Restored vals after r = (t : ℕ) → r ≡ Inconsistent t → after ≡ vals

@@ -1,12 +1,15 @@
 // Literals and clauses under an assignment that is lent as bytes.
 ghost use mathlib.Core.Path.{_≡_};
+ghost use mathlib.Core.Bool.{true, false};
 ghost use mathlib.Core.List.{map};
-ghost use Prim.Native.Nat.{_<_};
+ghost use Prim.Native.Nat.{ℕ, _<_};
 ghost use lib.ListN.{length};
 ghost use Rattle.model.specs.Lists.{All};
 ghost use Rattle.model.specs.Consistency.{holdsAt, clauseFalse, anyFalse};
 ghost use Rattle.theory.specs.Tables.{literals, clauses};
+ghost use Rattle.theory.specs.Search.{nth};
 ghost use Rattle.consistency.specs.Answers.{given, failsAt};
+ghost use Rattle.consistency.specs.Sets.{inPair};
 ghost use Rattle.consistency.specs.Given.{Tables};
 
 // The byte as an index.
@@ -52,16 +55,41 @@ pub fn clause_false(part: &[u8], vals: &[u8]) -> bool
     true
 }
 
-// Whether some clause is false.
-pub fn any_false(counts: &[u8], lits: &[u8], vals: &[u8]) -> bool
-    requires { ⌜ Tables (length (now vals)) (now counts) (now lits) ⌝ }
+// Whether the clause c is in the set of the two words.
+fn is_in(first: u64, second: u64, c: usize) -> bool
+    ensures { λ r. ⌜ r ≡ inPair first second c ⌝ }
+{
+    if c < 64 {
+        return first >> c & 1 == 1;
+    }
+    if c < 128 {
+        return second >> (c - 64) & 1 == 1;
+    }
+    false
+}
+
+// Whether the clause whose literals the part holds is false, where it is known whether it has an unassigned variable.
+fn fails(part: &[u8], vals: &[u8], waits: bool) -> bool
+    requires { ⌜ All (λ l. l .variable < length (now vals)) (literals (now part)) × (waits ≡ true → clauseFalse (map given (now vals)) (literals (now part)) ≡ false) ⌝ }
+    ensures { λ r. ⌜ r ≡ clauseFalse (map given (now (vals .entry))) (literals (now (part .entry))) ⌝ }
+{
+    if waits {
+        return false;
+    }
+    clause_false(part, vals)
+}
+
+// Whether some clause is false. None of the clauses in the set of the two words is, so that these need no look.
+pub fn any_false(counts: &[u8], lits: &[u8], vals: &[u8], open1: u64, open2: u64) -> bool
+    requires { ⌜ Tables (length (now vals)) (now counts) (now lits)
+        × ((c : ℕ) → inPair open1 open2 c ≡ true → clauseFalse (map given (now vals)) (nth (clauses (now counts) (now lits)) c) ≡ false) ⌝ }
     ensures { λ r. ⌜ r ≡ anyFalse (map given (now (vals .entry))) (clauses (now (counts .entry)) (now (lits .entry))) ⌝ }
 {
     let mut at = 0;
     let mut i = 0;
     while i < counts.len() {
         let end = at + 3 * wide(counts[i]);
-        if clause_false(&lits[at..end], vals) {
+        if fails(&lits[at..end], vals, is_in(open1, open2, i)) {
             return true;
         }
         at = end;

@@ -1,9 +1,11 @@
 // The consistency test over decoded tables: whether values of all unassigned variables make every clause hold, with the
 // trials that document 01 counts. `clauses` asks the first question, whether a clause is false already, on the literals
-// themselves. After that a trial is a few operations on words, since sets of clauses are bits of words (`sets`): `tables`
-// makes the sets of a plant once, and `search` keeps the set of the clauses that are satisfied so far. A variable's value
-// is a byte, and 16 says that it is unassigned.
+// themselves. After that a trial is a few operations on words, since sets of clauses are bits of words: `tables` makes the
+// sets of a plant once, and the search hands down the set of the clauses that are satisfied so far. With at most 128 clauses
+// a set is two words (`pair_search`), with more it is eight (`search`, `sets`). A variable's value is a byte, and 16 says
+// that it is unassigned.
 pub mod clauses;
+mod pair_search;
 mod search;
 mod sets;
 pub mod tables;
@@ -11,6 +13,8 @@ pub mod tables;
 use clauses::any_false;
 ghost use Rattle.theory.specs.Tables.{clauses};
 ghost use mathlib.Core.List.{map};
+ghost use Prim.Native.Nat.{_≤_};
+ghost use lib.ListN.{length};
 ghost use Rattle.consistency.specs.Answers.{given, testOver, Ended};
 ghost use Rattle.consistency.specs.Given.{Given};
 
@@ -19,6 +23,60 @@ pub enum Answer {
     Consistent(u32),
     Inconsistent(u32),
     Spent(u32),
+}
+
+// The test with sets of two words, of a plant of at most 128 clauses.
+fn test_pairs(
+    sizes: &[u8],
+    counts: &[u8],
+    lits: &[u8],
+    sat: &[u64],
+    uses: &[u64],
+    vals: &mut [u8],
+    used: u32,
+    limit: u32,
+) -> Answer
+    requires { ⌜ Given (now sizes) (now counts) (now lits) (now sat) (now uses) (now vals) × (length (now counts) ≤ 128) ⌝ }
+    ensures { λ r. ⌜ Ended (testOver (clauses (now (counts .entry)) (now (lits .entry))) (now (sizes .entry)) limit used (map given (now (vals .entry)))) (now (vals .entry)) (now (vals .exit)) r ⌝ }
+{
+    let mut plan = [0u64; 144];
+    let s = pair_search::start(vals, sat, uses, &mut plan);
+    if any_false(counts, lits, vals, s.open1, s.open2) {
+        return Answer::Inconsistent(used);
+    }
+    pair_search::search(
+        sizes,
+        sat,
+        &plan,
+        vals,
+        s.held1,
+        s.held2,
+        s.next,
+        used,
+        limit,
+    )
+}
+
+// The test with sets of eight words.
+fn test_rows(
+    sizes: &[u8],
+    counts: &[u8],
+    lits: &[u8],
+    sat: &[u64],
+    uses: &[u64],
+    vals: &mut [u8],
+    used: u32,
+    limit: u32,
+) -> Answer
+    requires { ⌜ Given (now sizes) (now counts) (now lits) (now sat) (now uses) (now vals) ⌝ }
+    ensures { λ r. ⌜ Ended (testOver (clauses (now (counts .entry)) (now (lits .entry))) (now (sizes .entry)) limit used (map given (now (vals .entry)))) (now (vals .entry)) (now (vals .exit)) r ⌝ }
+{
+    if any_false(counts, lits, vals, 0, 0) {
+        return Answer::Inconsistent(used);
+    }
+    let mut last = [0u64; 384];
+    let held = search::start(vals, sat, uses, &mut last);
+    search::search(sizes, sat, &last, vals, held, 0, used, limit)
 }
 
 // The test of an assignment to all variables, with `used` trials made before; where it is consistent, `vals` holds the values found.
@@ -35,10 +93,8 @@ pub fn test(
     requires { ⌜ Given (now sizes) (now counts) (now lits) (now sat) (now uses) (now vals) ⌝ }
     ensures { λ r. ⌜ Ended (testOver (clauses (now (counts .entry)) (now (lits .entry))) (now (sizes .entry)) limit used (map given (now (vals .entry)))) (now (vals .entry)) (now (vals .exit)) r ⌝ }
 {
-    if any_false(counts, lits, vals) {
-        return Answer::Inconsistent(used);
+    if counts.len() <= 128 {
+        return test_pairs(sizes, counts, lits, sat, uses, vals, used, limit);
     }
-    let mut last = [0u64; 384];
-    let held = search::start(vals, sat, uses, &mut last);
-    search::search(sizes, sat, &last, vals, held, 0, used, limit)
+    test_rows(sizes, counts, lits, sat, uses, vals, used, limit)
 }

@@ -1,4 +1,4 @@
-// The search through the variables, with the set of the clauses that are satisfied so far.
+// The search on a plant of any number of clauses: a set is eight words.
 use super::Answer;
 use super::clauses::wide;
 use super::sets::covers_with;
@@ -9,12 +9,13 @@ ghost use mathlib.Core.Path.{_≡_};
 ghost use Prim.Native.Nat.{_≤_};
 ghost use lib.ListN.{length};
 ghost use Rattle.consistency.specs.Answers.{answerIn};
+ghost use Rattle.consistency.specs.Sets.{inSet};
 ghost use Rattle.consistency.specs.Given.{Lent, Starts, Room, NextFree, Searches};
 
 // Stores in each row of `last` the clauses that are due at its variable, and returns those that are satisfied.
 pub fn start(vals: &[u8], sat: &[u64], uses: &[u64], last: &mut [u64]) -> [u64; 8]
-    requires { ⌜ Lent (now vals) (now sat) (now uses) (now last) ⌝ }
-    ensures { λ r. ⌜ Starts (now (vals .entry)) (now (sat .entry)) (now (uses .entry)) (now (last .exit)) r ⌝ }
+    requires { ⌜ Lent 384 (now vals) (now sat) (now uses) (now last) ⌝ }
+    ensures { λ r. ⌜ Starts 512 (now (vals .entry)) (now (sat .entry)) (now (uses .entry)) (inSet (now (last .exit))) (inSet r 0) ⌝ }
 {
     let mut held = [0u64; 8];
     let mut free = [0u64; 8];
@@ -32,7 +33,7 @@ pub fn start(vals: &[u8], sat: &[u64], uses: &[u64], last: &mut [u64]) -> [u64; 
 }
 
 // An answer as one number: returned as it is, it would pass through memory, at each variable.
-fn packed(a: Answer) -> u64
+pub fn packed(a: Answer) -> u64
     ensures { λ r. ⌜ answerIn r ≡ a ⌝ }
 {
     match a {
@@ -43,7 +44,7 @@ fn packed(a: Answer) -> u64
 }
 
 // The answer that the number stands for.
-fn unpacked(r: u64) -> Answer
+pub fn unpacked(r: u64) -> Answer
     ensures { λ a. ⌜ a ≡ answerIn r ⌝ }
 {
     let t = (r % 4294967296) as u32;
@@ -81,7 +82,7 @@ fn descend(
     limit: u32,
 ) -> u64
     requires { ⌜ Room (now sizes) (now sat) (now last) (now vals) from ⌝ }
-    ensures { λ r. ⌜ Searches (now (sizes .entry)) (now (sat .entry)) (now (last .entry)) (now (vals .entry)) held from used limit (now (vals .exit)) (answerIn r) ⌝ }
+    ensures { λ r. ⌜ Searches 512 (now (sizes .entry)) (inSet (now (sat .entry))) (inSet (now (last .entry))) (now (vals .entry)) (inSet held 0) from used limit (now (vals .exit)) (answerIn r) ⌝ }
 {
     let v = next_free(vals, from);
     if v == sizes.len() {
@@ -131,7 +132,7 @@ pub fn search(
     limit: u32,
 ) -> Answer
     requires { ⌜ Room (now sizes) (now sat) (now last) (now vals) v ⌝ }
-    ensures { λ r. ⌜ Searches (now (sizes .entry)) (now (sat .entry)) (now (last .entry)) (now (vals .entry)) held v used limit (now (vals .exit)) r ⌝ }
+    ensures { λ r. ⌜ Searches 512 (now (sizes .entry)) (inSet (now (sat .entry))) (inSet (now (last .entry))) (now (vals .entry)) (inSet held 0) v used limit (now (vals .exit)) r ⌝ }
 {
     unpacked(descend(sizes, sat, last, vals, held, v, used, limit))
 }

@@ -3,24 +3,12 @@
 use super::clauses::holds;
 use super::clauses::wide;
 use super::sets::add;
-ghost use mathlib.Core.Path.{_≡_};
-ghost use Prim.Native.Nat.{ℕ, _<_, _≤_};
-ghost use lib.ListN.{length, getD};
+ghost use Prim.Native.Nat.{_<_, _≤_};
+ghost use lib.ListN.{length};
 ghost use Rattle.model.specs.Lists.{All};
 ghost use Rattle.theory.specs.Tables.{literals, clauses};
-ghost use Rattle.consistency.specs.Sets.{Marked, literalRows, Entered};
+ghost use Rattle.consistency.specs.Sets.{Empty, Marked, literalRows, Entered};
 ghost use Rattle.consistency.specs.Given.{Tables, Prepared};
-
-// Empties every row.
-fn clear(table: &mut [u64])
-    ensures { λ r. ⌜ ((k : ℕ) → getD (now (table .exit)) k 0 ≡ 0) ⌝ }
-{
-    let mut i = 0;
-    while i < table.len() {
-        table[i] = 0;
-        i += 1;
-    }
-}
 
 // Puts the clause c into the rows of the values at which one of its literals holds.
 fn mark(sat: &mut [u64], var: usize, sign: u8, value: u8, c: usize)
@@ -50,13 +38,11 @@ fn mark_clause(sat: &mut [u64], uses: &mut [u64], part: &[u8], c: usize)
     }
 }
 
-// Fills the two tables of a plant.
+// Fills the two tables of a plant, which are empty.
 pub fn prepare(counts: &[u8], lits: &[u8], sat: &mut [u64], uses: &mut [u64])
-    requires { ⌜ Tables 48 (now counts) (now lits) × (6144 ≤ length (now sat)) × (384 ≤ length (now uses)) ⌝ }
+    requires { ⌜ Tables 48 (now counts) (now lits) × (6144 ≤ length (now sat)) × (384 ≤ length (now uses)) × Empty (now sat) × Empty (now uses) ⌝ }
     ensures { λ r. ⌜ Prepared (clauses (now (counts .entry)) (now (lits .entry))) (now (sat .exit)) (now (uses .exit)) ⌝ }
 {
-    clear(sat);
-    clear(uses);
     let mut at = 0;
     let mut i = 0;
     while i < counts.len() {

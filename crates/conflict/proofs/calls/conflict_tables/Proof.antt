@@ -4,6 +4,7 @@ use native.Mathlib.Omega.{arith}
 use borrow.Author.Needs.{needs}
 use lib.Seq.{length-take-le}
 use Rattle.consistency.proofs.Callers.{tables-more}
+use Rattle.consistency.proofs.FirstSets.{zeros}
 use Rattle.conflict.proofs.Asking.{plant-refuses, plant-answers}
 use Rattle.conflict.proofs.calls.conflict_tables.Statement.{statement}
 use Rattle.conflict.proofs.calls.conflict_tables.Tie as tie
@@ -23,7 +24,7 @@ slice-aggregate-prepare-2 c = search needs
 prepare-requires : tie.Need-prepare-requires
 prepare-requires c κs =
     let s = c .before .before .before .before .before .before .before in
-    (tables-more _ 48 _ _ (s .pre .few) (s .pre .tables), omega arith, omega arith)
+    (tables-more _ 48 _ _ (s .pre .few) (s .pre .tables), omega arith, omega arith, zeros 6144, zeros 384)
 
 slice-aggregate-conflict-of : tie.Need-slice-aggregate-conflict-of
 slice-aggregate-conflict-of c = search needs

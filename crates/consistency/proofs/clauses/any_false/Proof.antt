@@ -1,11 +1,11 @@
--- `clauses::any_false` meets its contract. The loop: some clause is false exactly if one from i on is. Assumes nothing.
+-- `clauses::any_false` meets its contract. The loop: some clause is false exactly if one from i on is; a clause of the set is known not to be. Assumes nothing.
 use mathlib.Core.Path.{_≡_, refl, sym, _∙_}
 use mathlib.Core.List.{map}
 use Prim.Native.Nat.{_+_, _*_, _-_}
 use lib.ListN.{length, drop}
 use Rattle.model.specs.Consistency.{anyFalse}
 use Rattle.theory.specs.Tables.{clauses}
-use Rattle.theory.proofs.TableClauses.{Along, along-first, along-room, along-below, along-next}
+use Rattle.theory.proofs.TableClauses.{Along, along-first, along-room, along-below, along-next, along-nth}
 use Rattle.consistency.specs.Answers.{given}
 use Rattle.consistency.proofs.Parts.{any-step, any-end}
 use native.Mathlib.Omega.{arith}
@@ -14,15 +14,15 @@ use Rattle.consistency.proofs.clauses.any_false.Statement.{statement}
 use Rattle.consistency.proofs.clauses.any_false.Tie as tie
 
 abbrev Inv-loop : tie.InvT-loop
-Inv-loop counts lits vals at₀ i₀ at i =
+Inv-loop counts lits vals open1 open2 at₀ i₀ at i =
     Along (length vals) counts lits i at
     × (anyFalse (map given vals) (clauses counts lits) ≡ anyFalse (map given vals) (drop i (clauses counts lits)))
 
 abbrev μ-loop : tie.MeasureT-loop
-μ-loop counts lits vals at₀ i₀ at i = length counts - i
+μ-loop counts lits vals open1 open2 at₀ i₀ at i = length counts - i
 
 loop-holds : tie.Need-loop-holds Inv-loop μ-loop
-loop-holds c = (along-first _ _ _ (c .before .before .before .pre .room) (c .before .before .before .pre .below), refl)
+loop-holds c = (along-first _ _ _ (c .before .before .before .pre .0 .room) (c .before .before .before .pre .0 .below), refl)
 
 shared-slice-read-wide : tie.Need-shared-slice-read-wide Inv-loop μ-loop
 shared-slice-read-wide c = omega arith
@@ -36,28 +36,35 @@ mul-end c = omega (arith, c .wide .ensures, along-room _ _ _ _ _ (c .before .bef
 add-end : tie.Need-add-end Inv-loop μ-loop
 add-end c = omega (arith, c .wide .ensures, along-room _ _ _ _ _ (c .before .before .before .loop .inv .0) (c .before .before .loop-test .taken))
 
-sub-clause-false : tie.Need-sub-clause-false Inv-loop μ-loop
-sub-clause-false c = omega arith
+sub-fails : tie.Need-sub-fails Inv-loop μ-loop
+sub-fails c = omega arith
 
-part-clause-false-start : tie.Need-part-clause-false-start Inv-loop μ-loop
-part-clause-false-start c = omega arith
+part-fails-start : tie.Need-part-fails-start Inv-loop μ-loop
+part-fails-start c = omega arith
 
-part-clause-false-end : tie.Need-part-clause-false-end Inv-loop μ-loop
-part-clause-false-end c = omega (arith, c .wide .ensures, along-room _ _ _ _ _ (c .before .before .before .loop .inv .0) (c .before .before .loop-test .taken))
+part-fails-end : tie.Need-part-fails-end Inv-loop μ-loop
+part-fails-end c = omega (arith, c .wide .ensures, along-room _ _ _ _ _ (c .before .before .before .loop .inv .0) (c .before .before .loop-test .taken))
 
-clause-false-requires : tie.Need-clause-false-requires Inv-loop μ-loop
-clause-false-requires c κs =
-    let h = c .before .before .before .before .loop in
-    let x = c .before .wide in
+is-in-requires : tie.Need-is-in-requires Inv-loop μ-loop
+is-in-requires c κs = search needs
+
+fails-requires : tie.Need-fails-requires Inv-loop μ-loop
+fails-requires c κs =
+    let s = c .before .before .before .before .before .before .before .before .before in
+    let h = c .before .before .before .before .before .loop in
+    let lt = c .before .before .before .before .loop-test .taken in
+    let x = c .before .before .wide in
     let e : h .at + 3 * x .result - h .at ≡ 3 * x .result = omega arith in
-    rw (e, x .ensures) (along-below _ _ _ _ _ (h .inv .0) (c .before .before .before .loop-test .taken))
+    rw (e, x .ensures)
+    (along-below _ _ _ _ _ (h .inv .0) lt, λ w. rw (along-nth _ _ _ _ _ (h .inv .0) lt) at (s .pre .1 (h .i) (sym (c .is-in .ensures) ∙ w)))
 
 returns : tie.Need-returns Inv-loop μ-loop
 returns c =
-    let h = c .before .before .before .before .before .before .loop in
-    let x = c .before .before .before .wide in
+    let h = c .before .before .before .before .before .before .before .loop in
+    let x = c .before .before .before .before .wide in
+    let lt = c .before .before .before .before .before .before .loop-test .taken in
     let e : h .at + 3 * x .result - h .at ≡ 3 * x .result = omega arith in
-    sym (h .inv .1 ∙ any-step _ _ _ _ _ _ (h .inv .0) (c .before .before .before .before .before .loop-test .taken) _ (rw (e, x .ensures) at (c .before .clause-false .ensures)) ∙ rw (c .if1 .taken))
+    sym (h .inv .1 ∙ any-step _ _ _ _ _ _ (h .inv .0) lt _ (rw (e, x .ensures) at (c .before .fails .ensures)) ∙ rw (c .if1 .taken))
 
 add-i : tie.Need-add-i Inv-loop μ-loop
 add-i c = omega arith
@@ -67,12 +74,12 @@ loop-less c = omega arith
 
 loop-again : tie.Need-loop-again Inv-loop μ-loop
 loop-again c =
-    let h = c .before .before .before .before .before .before .loop in
-    let lt = c .before .before .before .before .before .loop-test .taken in
-    let x = c .before .before .before .wide in
+    let h = c .before .before .before .before .before .before .before .loop in
+    let lt = c .before .before .before .before .before .before .loop-test .taken in
+    let x = c .before .before .before .before .wide in
     let e : h .at + 3 * x .result - h .at ≡ 3 * x .result = omega arith in (
       rw (x .ensures) (along-next _ _ _ _ _ (h .inv .0) lt),
-      h .inv .1 ∙ any-step _ _ _ _ _ _ (h .inv .0) lt _ (rw (e, x .ensures) at (c .before .clause-false .ensures)) ∙ rw (c .if1 .left),
+      h .inv .1 ∙ any-step _ _ _ _ _ _ (h .inv .0) lt _ (rw (e, x .ensures) at (c .before .fails .ensures)) ∙ rw (c .if1 .left),
     )
 
 returns-2 : tie.Need-returns-2 Inv-loop μ-loop
@@ -89,10 +96,11 @@ any-false-spec =
     wide-requires
     mul-end
     add-end
-    sub-clause-false
-    part-clause-false-start
-    part-clause-false-end
-    clause-false-requires
+    sub-fails
+    part-fails-start
+    part-fails-end
+    is-in-requires
+    fails-requires
     returns
     add-i
     loop-less

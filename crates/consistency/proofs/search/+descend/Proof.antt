@@ -7,6 +7,8 @@ use borrow.Author.Needs.{needs}
 use borrow.Fn.Kinds.{In}
 use borrow.Fn.PlainCycle.{Measures, is, falls, and}
 use lib.ListN.{length, length-set}
+use Rattle.consistency.specs.Sets.{inSet}
+use Rattle.consistency.specs.Given.{Room}
 use Rattle.consistency.proofs.Turns.{none-left, Turn, turn-first, turn-end, turn-stop, value, row-within, room-set, turn-again, deep-found, deep-stop, deep-again}
 use Rattle.consistency.proofs.search.descend.Reads as descend′
 use Rattle.consistency.proofs.search.descend.Kinds as descend-kinds
@@ -50,14 +52,15 @@ callees t = (
 )
 
 abbrev descend-Inv-loop : descend-lts.InvT-loop
-descend-Inv-loop sizes sat last vals₀ held from used limit v size u₀ x₀ vals u x = Turn sizes sat last vals₀ held from v used limit size vals u x
+descend-Inv-loop sizes sat last vals₀ held from used limit v size u₀ x₀ vals u x =
+    Turn 512 sizes (inSet sat) (inSet last) vals₀ (inSet held 0) from v used limit size vals u x × Room sizes sat last vals₀ from
 
 abbrev descend-μ-loop : descend-lts.MeasureT-loop
 descend-μ-loop sizes sat last vals₀ held from used limit v size u₀ x₀ vals u x = size - x
 
 module _ (t : ℕ) where
   descend-next-free-requires : descend-lts.Need-next-free-requires (callees t) (descend-at t) descend′.Post descend-Inv-loop descend-μ-loop
-  descend-next-free-requires c κs = omega (arith, c .before .before .before .before .before .pre .1 .upto, c .before .before .before .before .before .pre .1 .same)
+  descend-next-free-requires c κs = omega (arith, c .before .before .before .before .before .pre .1 .bytes .upto, c .before .before .before .before .before .pre .1 .bytes .same)
 
   descend-packed-requires : descend-lts.Need-packed-requires (callees t) (descend-at t) descend′.Post descend-Inv-loop descend-μ-loop
   descend-packed-requires c κs = search needs
@@ -66,33 +69,35 @@ module _ (t : ℕ) where
   descend-same-length c = refl
 
   descend-returns : descend-lts.Need-returns (callees t) (descend-at t) descend′.Post descend-Inv-loop descend-μ-loop
-  descend-returns c = none-left _ _ _ _ _ _ (c .before .before .before .before .before .before .before .before .pre .1) (c .before .before .next-free .ensures) (c .before .if1 .taken) _ _ _ _ (c .packed .ensures)
+  descend-returns c = none-left 512 _ _ _ _ _ _ (c .before .before .before .before .before .before .before .before .pre .1 .bytes) (c .before .before .next-free .ensures) (c .before .if1 .taken) _ _ _ _ (c .packed .ensures)
 
   descend-shared-slice-read-size : descend-lts.Need-shared-slice-read-size (callees t) (descend-at t) descend′.Post descend-Inv-loop descend-μ-loop
   descend-shared-slice-read-size c =
       let n = c .before .before .next-free .ensures in
-      omega (arith, n .upto, c .before .before .before .before .before .before .before .before .pre .1 .same)
+      omega (arith, n .upto, c .before .before .before .before .before .before .before .before .pre .1 .bytes .same)
 
   descend-loop-holds : descend-lts.Need-loop-holds (callees t) (descend-at t) descend′.Post descend-Inv-loop descend-μ-loop
-  descend-loop-holds c = turn-first _ _ _ _ _ _ _ _ _ _ (c .before .before .before .before .before .before .before .before .pre .1) (c .before .before .next-free .ensures) (c .before .if1 .left) refl
+  descend-loop-holds c =
+      let p = c .before .before .before .before .before .before .before .before .pre .1 in
+      (turn-first 512 _ _ _ _ _ _ _ _ _ _ (p .bytes) (c .before .before .next-free .ensures) (c .before .if1 .left) refl, p)
 
   descend-slice-write-vals : descend-lts.Need-slice-write-vals (callees t) (descend-at t) descend′.Post descend-Inv-loop descend-μ-loop
   descend-slice-write-vals c =
-      let h = c .before .before .loop .inv in
+      let h = c .before .before .loop .inv .0 in
       omega (arith, h .long, h .room .same, h .below)
 
   descend-packed-requires-2 : descend-lts.Need-packed-requires-2 (callees t) (descend-at t) descend′.Post descend-Inv-loop descend-μ-loop
   descend-packed-requires-2 c κs = search needs
 
   descend-same-length-2 : descend-lts.Need-same-length-2 (callees t) (descend-at t) descend′.Post descend-Inv-loop descend-μ-loop
-  descend-same-length-2 c = simp length-set (c .before .before .before .loop .inv .long)
+  descend-same-length-2 c = simp length-set (c .before .before .before .loop .inv .0 .long)
 
   descend-returns-2 : descend-lts.Need-returns-2 (callees t) (descend-at t) descend′.Post descend-Inv-loop descend-μ-loop
-  descend-returns-2 c = turn-stop _ _ _ _ _ _ _ _ _ _ _ _ _ (c .before .before .before .loop .inv) (c .before .before .loop-test .taken) (c .before .if2 .taken) _ (c .packed2 .ensures)
+  descend-returns-2 c = turn-stop 512 _ _ _ _ _ _ _ _ _ _ _ _ _ (c .before .before .before .loop .inv .0) (c .before .before .loop-test .taken) (c .before .if2 .taken) _ (c .packed2 .ensures)
 
   descend-slice-write-vals-2 : descend-lts.Need-slice-write-vals-2 (callees t) (descend-at t) descend′.Post descend-Inv-loop descend-μ-loop
   descend-slice-write-vals-2 c =
-      let h = c .before .before .loop .inv in
+      let h = c .before .before .loop .inv .0 in
       omega (arith, h .long, h .room .same, h .below)
 
   descend-add-u : descend-lts.Need-add-u (callees t) (descend-at t) descend′.Post descend-Inv-loop descend-μ-loop
@@ -100,7 +105,7 @@ module _ (t : ℕ) where
 
   descend-mul-row : descend-lts.Need-mul-row (callees t) (descend-at t) descend′.Post descend-Inv-loop descend-μ-loop
   descend-mul-row c =
-      let h = c .before .before .loop .inv in
+      let h = c .before .before .loop .inv .0 in
       omega (arith, h .room .few, h .below)
 
   descend-wide-requires : descend-lts.Need-wide-requires (callees t) (descend-at t) descend′.Post descend-Inv-loop descend-μ-loop
@@ -108,29 +113,37 @@ module _ (t : ℕ) where
 
   descend-add-row : descend-lts.Need-add-row (callees t) (descend-at t) descend′.Post descend-Inv-loop descend-μ-loop
   descend-add-row c =
-      let h = c .before .before .before .loop .inv in
-      omega (arith, c .wide .ensures, row-within _ _ _ _ _ _ _ _ _ _ _ _ _ h (c .before .before .loop-test .taken))
+      let h = c .before .before .before .loop .inv .0 in
+      omega (arith, c .wide .ensures, row-within 512 _ _ _ _ _ _ _ _ _ _ _ _ _ h (c .before .before .loop-test .taken))
 
   descend-covers-with-requires : descend-lts.Need-covers-with-requires (callees t) (descend-at t) descend′.Post descend-Inv-loop descend-μ-loop
   descend-covers-with-requires c κs =
-      let h = c .before .before .before .loop .inv in
-      (omega (arith, h .room .last-long, h .room .few, h .below), omega (arith, c .wide .ensures, row-within _ _ _ _ _ _ _ _ _ _ _ _ _ h (c .before .before .loop-test .taken)))
+      let h = c .before .before .before .loop .inv .0 in
+      let long = c .before .before .before .loop .inv .1 in
+      (omega (arith, long .last-long, h .room .few, h .below), omega (arith, long .sat-long, c .wide .ensures, row-within 512 _ _ _ _ _ _ _ _ _ _ _ _ _ h (c .before .before .loop-test .taken)))
 
   descend-joined-requires : descend-lts.Need-joined-requires (callees t) (descend-at t) descend′.Post descend-Inv-loop descend-μ-loop
   descend-joined-requires c κs =
-      let h = c .before .before .before .before .before .loop .inv in
-      omega (arith, c .before .before .wide .ensures, row-within _ _ _ _ _ _ _ _ _ _ _ _ _ h (c .before .before .before .before .loop-test .taken))
+      let h = c .before .before .before .before .before .loop .inv .0 in
+      omega (arith, c .before .before .before .before .before .loop .inv .1 .sat-long, c .before .before .wide .ensures, row-within 512 _ _ _ _ _ _ _ _ _ _ _ _ _ h (c .before .before .before .before .loop-test .taken))
 
   descend-add-descend : descend-lts.Need-add-descend (callees t) (descend-at t) descend′.Post descend-Inv-loop descend-μ-loop
   descend-add-descend c =
-      let h = c .before .before .before .before .before .before .before .loop .inv in
+      let h = c .before .before .before .before .before .before .before .loop .inv .0 in
       omega (arith, h .room .few, h .below)
 
   descend-descend-requires : descend-lts.Need-descend-requires (callees t) (descend-at t) descend′.Post descend-Inv-loop descend-μ-loop
   descend-descend-requires c κs =
-      let h = c .before .before .before .before .before .before .before .loop .inv in
+      let h = c .before .before .before .before .before .before .before .loop .inv .0 in
       let n = c .before .before .before .before .before .before .before .before .before .before .next-free .ensures in
-      (omega (arith, h .below, n .after), room-set _ _ _ _ _ _ _ _ _ _ _ _ _ h (c .before .before .before .before .before .before .loop-test .taken))
+      let long = c .before .before .before .before .before .before .before .loop .inv .1 in (
+        omega (arith, h .below, n .after),
+        record {
+          bytes = room-set 512 _ _ _ _ _ _ _ _ _ _ _ _ _ h (c .before .before .before .before .before .before .loop-test .taken);
+          sat-long = long .sat-long;
+          last-long = long .last-long;
+        },
+      )
 
   descend-unpacked-requires : descend-lts.Need-unpacked-requires (callees t) (descend-at t) descend′.Post descend-Inv-loop descend-μ-loop
   descend-unpacked-requires c κs = search needs
@@ -142,14 +155,14 @@ module _ (t : ℕ) where
   descend-packed-requires-3 c κs = search needs
 
   descend-same-length-3 : descend-lts.Need-same-length-3 (callees t) (descend-at t) descend′.Post descend-Inv-loop descend-μ-loop
-  descend-same-length-3 c = c .before .before .before .before .before .before .before .descend .kept .1 .1 .1 .0 ∙ simp length-set (c .before .before .before .before .before .before .before .before .before .before .before .before .before .before .before .loop .inv .long)
+  descend-same-length-3 c = c .before .before .before .before .before .before .before .descend .kept .1 .1 .1 .0 ∙ simp length-set (c .before .before .before .before .before .before .before .before .before .before .before .before .before .before .before .loop .inv .0 .long)
 
   descend-returns-3 : descend-lts.Need-returns-3 (callees t) (descend-at t) descend′.Post descend-Inv-loop descend-μ-loop
   descend-returns-3 c =
       let k = c .before .before .before .before .before .before .before .before .before .before .before in
       let p = c .before .before .before .before .before .before .before .descend in
-      deep-found _ _ _ _ _ _ _ _ _ _ _ _ _ (k .before .before .before .before .loop .inv) (k .before .before .before .loop-test .taken) (k .before .before .if2 .left)
-      _ _ (rw (k .before .wide .ensures)) (k .covers-with .ensures) (c .before .before .before .before .before .before .before .before .before .before .if3 .taken) _ (c .before .before .before .before .before .before .before .before .before .joined .ensures)
+      deep-found 512 _ _ _ _ _ _ _ _ _ _ _ _ _ (k .before .before .before .before .loop .inv .0) (k .before .before .before .loop-test .taken) (k .before .before .if2 .left)
+      _ _ (rw (k .before .wide .ensures)) (k .covers-with .ensures) (c .before .before .before .before .before .before .before .before .before .before .if3 .taken) _ (c .before .before .before .before .before .before .before .before .before .joined .ensures .has)
       _ _ _ (p .ensures) (sym (c .before .before .before .before .unpacked .ensures) ∙ c .before .before .t .given .1) _ (c .packed3 .ensures)
 
   descend-enum-known-t-2 : descend-lts.Need-enum-known-t-2 (callees t) (descend-at t) descend′.Post descend-Inv-loop descend-μ-loop
@@ -157,7 +170,7 @@ module _ (t : ℕ) where
 
   descend-slice-write-vals-3 : descend-lts.Need-slice-write-vals-3 (callees t) (descend-at t) descend′.Post descend-Inv-loop descend-μ-loop
   descend-slice-write-vals-3 c =
-      let h = c .before .before .before .before .before .before .before .before .before .before .before .before .before .before .loop .inv in
+      let h = c .before .before .before .before .before .before .before .before .before .before .before .before .before .before .loop .inv .0 in
       let l = simp length-set at (c .before .before .before .before .before .before .descend .kept .1 .1 .1 .0) in
       omega (arith, h .long, h .room .same, h .below)
 
@@ -165,21 +178,21 @@ module _ (t : ℕ) where
   descend-packed-requires-4 c κs = search needs
 
   descend-same-length-4 : descend-lts.Need-same-length-4 (callees t) (descend-at t) descend′.Post descend-Inv-loop descend-μ-loop
-  descend-same-length-4 c = simp length-set (c .before .before .before .before .before .before .before .descend .kept .1 .1 .1 .0 ∙ simp length-set (c .before .before .before .before .before .before .before .before .before .before .before .before .before .before .before .loop .inv .long))
+  descend-same-length-4 c = simp length-set (c .before .before .before .before .before .before .before .descend .kept .1 .1 .1 .0 ∙ simp length-set (c .before .before .before .before .before .before .before .before .before .before .before .before .before .before .before .loop .inv .0 .long))
 
   descend-returns-4 : descend-lts.Need-returns-4 (callees t) (descend-at t) descend′.Post descend-Inv-loop descend-μ-loop
   descend-returns-4 c =
       let k = c .before .before .before .before .before .before .before .before .before .before .before in
       let p = c .before .before .before .before .before .before .before .descend in
-      deep-stop _ _ _ _ _ _ _ _ _ _ _ _ _ (k .before .before .before .before .loop .inv) (k .before .before .before .loop-test .taken) (k .before .before .if2 .left)
-      _ _ (rw (k .before .wide .ensures)) (k .covers-with .ensures) (c .before .before .before .before .before .before .before .before .before .before .if3 .taken) _ (c .before .before .before .before .before .before .before .before .before .joined .ensures)
+      deep-stop 512 _ _ _ _ _ _ _ _ _ _ _ _ _ (k .before .before .before .before .loop .inv .0) (k .before .before .before .loop-test .taken) (k .before .before .if2 .left)
+      _ _ (rw (k .before .wide .ensures)) (k .covers-with .ensures) (c .before .before .before .before .before .before .before .before .before .before .if3 .taken) _ (c .before .before .before .before .before .before .before .before .before .joined .ensures .has)
       _ _ _ (p .ensures) (sym (c .before .before .before .before .unpacked .ensures) ∙ c .before .before .t2 .given .1) _ (c .packed4 .ensures)
 
   descend-enum-known-t-3 : descend-lts.Need-enum-known-t-3 (callees t) (descend-at t) descend′.Post descend-Inv-loop descend-μ-loop
   descend-enum-known-t-3 c = search needs
 
   descend-add-x : descend-lts.Need-add-x (callees t) (descend-at t) descend′.Post descend-Inv-loop descend-μ-loop
-  descend-add-x c = omega (arith, value _ _ _ _ _ _ _ _ _ _ _ _ _ (c .before .before .before .before .before .loop .inv) (c .before .before .before .before .loop-test .taken))
+  descend-add-x c = omega (arith, value 512 _ _ _ _ _ _ _ _ _ _ _ _ _ (c .before .before .before .before .before .loop .inv .0) (c .before .before .before .before .loop-test .taken))
 
   descend-loop-less : descend-lts.Need-loop-less (callees t) (descend-at t) descend′.Post descend-Inv-loop descend-μ-loop
   descend-loop-less c = omega arith
@@ -187,29 +200,31 @@ module _ (t : ℕ) where
   descend-loop-again : descend-lts.Need-loop-again (callees t) (descend-at t) descend′.Post descend-Inv-loop descend-μ-loop
   descend-loop-again c =
       let k = c .before in
-      let h = k .before .before .before .before .loop .inv in
+      let h = k .before .before .before .before .loop .inv .0 in
       let lt = k .before .before .before .loop-test .taken in
       let ul = k .before .before .if2 .left in
-      let e = k .before .wide .ensures in
-      ⊎-elim
-      (λ w. deep-again _ _ _ _ _ _ _ _ _ _ _ _ _ h lt ul _ _ (rw e) (k .covers-with .ensures) (w .0 .taken) _ (w .1 .ensures)
-      _ _ _ (w .3 .ensures) (sym (w .6 .ensures) ∙ w .8 .given .1) (w .3 .kept .1 .1 .1 .0) _ _ (w .10) (w .11))
-      (λ w. turn-again _ _ _ _ _ _ _ _ _ _ _ _ _ h lt ul _ _ (rw e) (k .covers-with .ensures) (w .0 .left) _ _ (w .1) (w .2))
-      (c .if3 .came)
+      let e = k .before .wide .ensures in (
+        ⊎-elim
+            (λ w. deep-again 512 _ _ _ _ _ _ _ _ _ _ _ _ _ h lt ul _ _ (rw e) (k .covers-with .ensures) (w .0 .taken) _ (w .1 .ensures .has)
+            _ _ _ (w .3 .ensures) (sym (w .6 .ensures) ∙ w .8 .given .1) (w .3 .kept .1 .1 .1 .0) _ _ (w .10) (w .11))
+            (λ w. turn-again 512 _ _ _ _ _ _ _ _ _ _ _ _ _ h lt ul _ _ (rw e) (k .covers-with .ensures) (w .0 .left) _ _ (w .1) (w .2))
+            (c .if3 .came),
+        k .before .before .before .before .loop .inv .1,
+      )
 
   descend-slice-write-vals-4 : descend-lts.Need-slice-write-vals-4 (callees t) (descend-at t) descend′.Post descend-Inv-loop descend-μ-loop
   descend-slice-write-vals-4 c =
-      let h = c .before .loop .inv in
+      let h = c .before .loop .inv .0 in
       omega (arith, h .long, h .room .same, h .below)
 
   descend-packed-requires-5 : descend-lts.Need-packed-requires-5 (callees t) (descend-at t) descend′.Post descend-Inv-loop descend-μ-loop
   descend-packed-requires-5 c κs = search needs
 
   descend-same-length-5 : descend-lts.Need-same-length-5 (callees t) (descend-at t) descend′.Post descend-Inv-loop descend-μ-loop
-  descend-same-length-5 c = simp length-set (c .before .before .loop .inv .long)
+  descend-same-length-5 c = simp length-set (c .before .before .loop .inv .0 .long)
 
   descend-returns-5 : descend-lts.Need-returns-5 (callees t) (descend-at t) descend′.Post descend-Inv-loop descend-μ-loop
-  descend-returns-5 c = turn-end _ _ _ _ _ _ _ _ _ _ _ _ _ (c .before .before .loop .inv) (c .before .loop-test .left) _ (c .packed5 .ensures)
+  descend-returns-5 c = turn-end 512 _ _ _ _ _ _ _ _ _ _ _ _ _ (c .before .before .loop .inv .0) (c .before .loop-test .left) _ (c .packed5 .ensures)
 
 pub +descend-spec : {M : Type 1} → statement M
 +descend-spec = close μ-descend λ t. descend-lts.spec (callees t)

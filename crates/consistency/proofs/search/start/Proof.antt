@@ -4,8 +4,9 @@ use mathlib.Core.List.{List}
 use Prim.Native.Nat.{_+_, _-_, _≤_}
 use lib.ListN.{length}
 use Rattle.model.specs.Sheet.{Literal}
-use Rattle.consistency.specs.Given.{Lent, Clauses}
-use Rattle.consistency.proofs.FirstSets.{value-below, From, from-first, from-next, from-end}
+use Rattle.consistency.specs.Sets.{inSet}
+use Rattle.consistency.specs.Given.{Lent, Clauses, SetsFrom}
+use Rattle.consistency.proofs.FirstSets.{value-below, empty, from-first, from-next, from-end}
 use native.Mathlib.Omega.{arith}
 use borrow.Author.Needs.{needs}
 use Rattle.consistency.proofs.search.start.Statement.{statement}
@@ -15,14 +16,14 @@ abbrev Inv-loop : tie.InvT-loop
 Inv-loop vals sat uses last₀ held₀ free₀ v₀ last held free v =
     (v ≤ length vals)
     × (length last ≡ length last₀)
-    × Lent vals sat uses last₀
-    × ((cs : List (List Literal)) → Clauses cs vals sat uses → From vals sat uses cs last held free v)
+    × Lent 384 vals sat uses last₀
+    × ((cs : List (List Literal)) → Clauses cs vals sat uses → SetsFrom 512 cs vals (inSet last) (inSet held 0) (inSet free 0) v)
 
 abbrev μ-loop : tie.MeasureT-loop
 μ-loop vals sat uses last₀ held₀ free₀ v₀ last held free v = v
 
 loop-holds : tie.Need-loop-holds Inv-loop μ-loop
-loop-holds c = (omega arith, refl, c .before .before .before .before .pre, λ cs k. from-first _ _ _ cs _ k)
+loop-holds c = (omega arith, refl, c .before .before .before .before .pre, λ cs k. from-first 512 _ _ _ cs _ _ empty k)
 
 sub-v : tie.Need-sub-v Inv-loop μ-loop
 sub-v c = omega arith
@@ -30,7 +31,7 @@ sub-v c = omega arith
 store-less-requires : tie.Need-store-less-requires Inv-loop μ-loop
 store-less-requires c κs =
     let h = c .before .before .loop in
-    (omega (arith, h .inv .1, h .inv .2 .few, h .inv .2 .last-long), omega (arith, h .inv .2 .few, h .inv .2 .uses-long))
+    (omega (arith, h .inv .1, h .inv .2 .few, h .inv .2 .long), omega (arith, h .inv .2 .few, h .inv .2 .uses-long))
 
 shared-slice-read-a : tie.Need-shared-slice-read-a Inv-loop μ-loop
 shared-slice-read-a c = omega arith
@@ -67,8 +68,8 @@ loop-again c =
       omega arith,
       m .kept .0 ∙ h .inv .1,
       h .inv .2,
-      λ cs k. from-next _ _ _ (h .v - 1) (h .inv .2 .few) (omega arith) (h .inv .2 .bytes (h .v - 1)) _ _ _ _ (m .ensures)
-          _ (rw (c .before .wide .ensures)) _ _ (c .before .before .joined-if .ensures) (c .joined-if2 .ensures) cs k (rw e at (h .inv .3 cs k)),
+      λ cs k. from-next 512 _ _ _ (omega arith) (h .v - 1) (h .inv .2 .few) (omega arith) (h .inv .2 .bytes (h .v - 1)) _ _ _ _ _ _
+          (λ e. m .ensures .here) (m .ensures .rest) (c .before .before .joined-if .ensures .has) (rw (c .before .wide .ensures) at (c .joined-if2 .ensures) .has) cs k (rw e at (h .inv .3 cs k)),
     )
 
 same-length : tie.Need-same-length Inv-loop μ-loop
@@ -78,7 +79,7 @@ returns : tie.Need-returns Inv-loop μ-loop
 returns c =
     let h = c .before .loop in
     let e : h .v ≡ 0 = omega arith in
-    λ cs k. from-end _ _ _ cs _ _ _ (rw e at (h .inv .3 cs k))
+    λ cs k. from-end 512 _ cs _ _ _ (rw e at (h .inv .3 cs k))
 
 pub start-spec : {M : Type 1} → statement M
 start-spec =

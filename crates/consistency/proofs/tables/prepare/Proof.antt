@@ -15,18 +15,10 @@ Inv-loop counts lits sat₀ uses₀ at₀ i₀ sat uses at i = Filling counts li
 abbrev μ-loop : tie.MeasureT-loop
 μ-loop counts lits sat₀ uses₀ at₀ i₀ sat uses at i = length counts - i
 
-clear-requires : tie.Need-clear-requires Inv-loop μ-loop
-clear-requires c κs = search needs
-
-clear-requires-2 : tie.Need-clear-requires-2 Inv-loop μ-loop
-clear-requires-2 c κs = search needs
-
 loop-holds : tie.Need-loop-holds Inv-loop μ-loop
 loop-holds c =
-    let s = c .before .before .before .before .before .before .before .before .before .before .before .before in
-    let a = c .before .before .before .before .before .before .clear in
-    let b = c .before .before .clear2 in
-    filling-first _ _ _ _ (s .pre .0) (omega (arith, s .pre .1, a .kept .0)) (omega (arith, s .pre .2, b .kept .0)) (a .ensures) (b .ensures)
+    let s = c .before .before .before .before in
+    filling-first _ _ _ _ (s .pre .0) (s .pre .1) (s .pre .2) (s .pre .3) (s .pre .4)
 
 shared-slice-read-wide : tie.Need-shared-slice-read-wide Inv-loop μ-loop
 shared-slice-read-wide c = omega arith
@@ -73,10 +65,10 @@ loop-again c =
     _ _ (m .kept .0) (m .kept .1 .0) (rw (e, x .ensures) at (m .ensures)))
 
 same-length : tie.Need-same-length Inv-loop μ-loop
-same-length c = c .before .loop .inv .sat-same ∙ c .before .before .before .before .before .before .before .before .clear .kept .0
+same-length c = c .before .loop .inv .sat-same
 
 same-length-2 : tie.Need-same-length-2 Inv-loop μ-loop
-same-length-2 c = c .before .loop .inv .uses-same ∙ c .before .before .before .before .clear2 .kept .0
+same-length-2 c = c .before .loop .inv .uses-same
 
 returns : tie.Need-returns Inv-loop μ-loop
 returns c = filling-end _ _ _ _ _ _ _ _ (c .before .loop .inv) (c .loop-test .left)
@@ -87,8 +79,6 @@ prepare-spec =
     (tie.spec
     Inv-loop
     μ-loop
-    clear-requires
-    clear-requires-2
     loop-holds
     shared-slice-read-wide
     wide-requires

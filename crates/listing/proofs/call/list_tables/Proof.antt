@@ -4,6 +4,7 @@ use native.Mathlib.Omega.{arith}
 use lib.Seq.{length-take-le}
 use Rattle.theory.proofs.Tables.{tabled-decisions, tabled-few, tabled-sized}
 use Rattle.consistency.proofs.Callers.{tables-more}
+use Rattle.consistency.proofs.FirstSets.{zeros}
 use Rattle.conflict.proofs.Given.{tabled-limits}
 use Rattle.listing.proofs.Answering.{lists-of, finished-room, finished-called}
 use borrow.Author.Needs.{needs}
@@ -19,7 +20,7 @@ slice-aggregate-prepare-2 c = search needs
 prepare-requires : tie.Need-prepare-requires
 prepare-requires c κs = 
     let l = tabled-limits (c .before .before .before .before .before .before .before .before .before .before .pre .0 .1) in
-    (tables-more _ 48 _ _ (l .few) (l .tables), omega arith, omega arith)
+    (tables-more _ 48 _ _ (l .few) (l .tables), omega arith, omega arith, zeros 6144, zeros 384)
 
 preferred-requires : tie.Need-preferred-requires
 preferred-requires c κs = 

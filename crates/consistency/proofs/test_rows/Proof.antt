@@ -1,12 +1,16 @@
--- `test` meets its contract: the first question is decided by `any_false`, the rest by the search from variable 0 with the sets that `start` makes. Assumes nothing.
+-- `test_rows` meets its contract: the first question is decided by `any_false`, the rest by the search from variable 0 with the sets that `start` makes. Assumes nothing.
 use mathlib.Core.Path.{refl, sym, _∙_}
-use Rattle.consistency.proofs.Whole.{tables-vals, lent-first, room-first, at-once, searched}
+use mathlib.Core.Bool.{true≢false}
+use native.Mathlib.Omega.{arith}
+use Rattle.consistency.proofs.FirstSets.{none-in-pair}
+use Rattle.consistency.proofs.Whole.{tables-vals, lent-first, bytes-first, at-once, searched}
 use borrow.Author.Needs.{needs}
-use Rattle.consistency.proofs.test.Statement.{statement}
-use Rattle.consistency.proofs.test.Tie as tie
+use Rattle.consistency.proofs.test_rows.Statement.{statement}
+use Rattle.consistency.proofs.test_rows.Tie as tie
 
 any-false-requires : tie.Need-any-false-requires
-any-false-requires c κs = tables-vals _ _ _ _ _ _ (c .before .before .before .before .before .before .before .pre)
+any-false-requires c κs =
+    (tables-vals _ _ _ _ _ _ (c .before .before .before .before .before .before .before .pre), λ k e. absurd (true≢false (sym e ∙ none-in-pair k)))
 
 same-length : tie.Need-same-length
 same-length c = search needs
@@ -18,13 +22,15 @@ slice-aggregate-start : tie.Need-slice-aggregate-start
 slice-aggregate-start c = search needs
 
 start-requires : tie.Need-start-requires
-start-requires c κs = lent-first _ _ _ _ _ _ (c .before .before .before .before .before .before .before .before .before .before .before .pre) _ refl
+start-requires c κs = lent-first _ _ _ _ _ _ (c .before .before .before .before .before .before .before .before .before .before .before .pre) _
 
 slice-aggregate-search : tie.Need-slice-aggregate-search
 slice-aggregate-search c = search needs
 
 search-requires : tie.Need-search-requires
-search-requires c κs = room-first _ _ _ _ _ _ (c .before .before .before .before .before .before .before .before .before .before .before .before .before .before .before .pre) _ (c .before .before .before .start .kept .1 .1 .1 .0)
+search-requires c κs =
+    let g = c .before .before .before .before .before .before .before .before .before .before .before .before .before .before .before .pre in
+    record { bytes = bytes-first _ _ _ _ _ _ g; sat-long = g .ready .sat-long; last-long = omega (arith, c .before .before .before .start .kept .1 .1 .1 .0) }
 
 same-length-2 : tie.Need-same-length-2
 same-length-2 c = c .before .before .search .kept .1 .1 .1 .0
@@ -32,12 +38,12 @@ same-length-2 c = c .before .before .search .kept .1 .1 .1 .0
 returns-2 : tie.Need-returns-2
 returns-2 c =
     let s = c .before .before .before .before .before .before .before .before .before .before .before .before .before .before .before .before .before .before in
-    searched _ _ _ _ _ _ (s .pre) _ _
+    searched _ _ _ _ _ _ (s .pre) _ _ 512 (s .pre .tables .most) (omega arith)
     (sym (c .before .before .before .before .before .before .before .before .before .before .any-false .ensures) ∙ c .before .before .before .before .before .before .before .before .before .if1 .left)
     _ _ _ _ (c .before .before .before .before .before .before .start .ensures) (c .before .before .search .ensures)
 
-pub test-spec : {M : Type 1} → statement M
-test-spec =
+pub test-rows-spec : {M : Type 1} → statement M
+test-rows-spec =
     tie.close
     (tie.spec
     any-false-requires

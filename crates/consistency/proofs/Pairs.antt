@@ -1,0 +1,106 @@
+-- Sets of two words, of at most 128 clauses. Assumes nothing.
+use mathlib.Core.Path.{_≡_, refl, sym, _∙_}
+use mathlib.Core.Bool.{Bool, true, false, not, _&&_, _||_}
+use mathlib.Core.List.{List, [], _∷_}
+use Prim.Native.Nat.{ℕ, _+_, _*_, _-_, _/_, _%_, _^_, _<_, _≤_}
+use native.Mathlib.Omega.{arith}
+use native.Mathlib.Decide.{decLt}
+use lib.Bits.{bitAnd, bitOr, bitXor}
+use lib.ListN.{getD, List·getD-eq-default}
+use Rattle.consistency.specs.Sets.{bit, inWords, inSet, inPair, Within}
+use Rattle.consistency.specs.Given.{inPlan}
+use Rattle.consistency.proofs.Bits.{bit-or, bit-less, bit-zero, and-within, within-and}
+
+-- ---- the bit of a clause
+
+-- in the first and in the second word of a set
+in-low : (words : List ℕ) (from c : ℕ) → c < 64 → inWords words from c ≡ bit (getD words from 0) c
+in-low words from c h =
+    let d : from + c / 64 ≡ from = omega arith in
+    let m : c % 64 ≡ c = omega arith in
+    rw (d, m)
+
+in-high : (words : List ℕ) (from next c : ℕ) → next ≡ from + 1 → 64 ≤ c → c < 128 → inWords words from c ≡ bit (getD words next 0) (c - 64)
+in-high words from next c e l h =
+    let d : from + c / 64 ≡ next = omega arith in
+    let m : c % 64 ≡ c - 64 = omega arith in
+    rw (d, m)
+
+module _ (first second c : ℕ) where
+  -- of the set of two words: a bit of the first, a bit of the second, or none
+  pub pair-first : c < 64 → inPair first second c ≡ bit first c
+  unfolding inPair
+  pair-first h = in-low (first ∷ second ∷ []) 0 c h
+
+  pub pair-second : 64 ≤ c → c < 128 → inPair first second c ≡ bit second (c - 64)
+  unfolding inPair
+  pair-second l h = in-high (first ∷ second ∷ []) 0 1 c refl l h
+
+  pub pair-past : 128 ≤ c → inPair first second c ≡ false
+  unfolding inPair
+  pair-past h = rw (List·getD-eq-default (first ∷ second ∷ []) 0 {n = 0 + c / 64} (omega arith)) (bit-zero (c % 64))
+
+-- ---- a row of the plan within a set
+
+module _ (plan : List ℕ) (v first second : ℕ) where
+  -- each clause due at v is in the set
+  abbrev pub Covered : Type 0
+  Covered = (c : ℕ) → c < 128 → inPlan plan v c ≡ true → inPair first second c ≡ true
+
+  -- the second word of the row
+  high : (c : ℕ) → 64 ≤ c → c < 128 → inPlan plan v c ≡ bit (getD plan (v * 3 + 2) 0) (c - 64)
+  unfolding inPlan
+  high c l h = in-high plan (v * 3 + 1) (v * 3 + 2) c (omega arith) l h
+
+  -- if neither word of the row has a bit that the set has not
+  pub covered-all : bitAnd (getD plan (v * 3 + 1) 0) first ≡ getD plan (v * 3 + 1) 0 → bitAnd (getD plan (v * 3 + 2) 0) second ≡ getD plan (v * 3 + 2) 0 → Covered
+  unfolding inPlan
+  covered-all e f c h i = elim (decLt c 64) [
+    | yes l ↦ pair-first first second c l ∙ within-and (getD plan (v * 3 + 1) 0) first c e (sym (in-low plan (v * 3 + 1) c l) ∙ i)
+    | no l ↦ pair-second first second c (omega arith) h ∙ within-and (getD plan (v * 3 + 2) 0) second (c - 64) f (sym (high c (omega arith) h) ∙ i)
+  ]
+
+  -- and only then
+  pub covered-first : Covered → getD plan (v * 3 + 1) 0 < 2 ^ 64 → bitAnd (getD plan (v * 3 + 1) 0) first ≡ getD plan (v * 3 + 1) 0
+  unfolding inPlan
+  covered-first f b =
+      and-within 64 (getD plan (v * 3 + 1) 0) first b
+      (λ k l i. sym (pair-first first second k l) ∙ f k (omega arith) (in-low plan (v * 3 + 1) k l ∙ i))
+
+  pub covered-second : Covered → getD plan (v * 3 + 2) 0 < 2 ^ 64 → bitAnd (getD plan (v * 3 + 2) 0) second ≡ getD plan (v * 3 + 2) 0
+  unfolding inPlan
+  covered-second f b =
+      and-within 64 (getD plan (v * 3 + 2) 0) second b
+      (λ k l i. let e : k + 64 - 64 ≡ k = omega arith in
+      rw e at (sym (pair-second first second (k + 64) (omega arith) (omega arith)))
+      ∙ f (k + 64) (omega arith) (high (k + 64) (omega arith) (omega arith) ∙ rw e i))
+
+-- ---- words that are put together
+
+-- with the first two words of a row added
+pub pair-or : (a b : ℕ) (table : List ℕ) (row c : ℕ) → c < 128
+    → inPair (bitOr a (getD table (row * 8) 0)) (bitOr b (getD table (row * 8 + 1) 0)) c ≡ (inPair a b c || inSet table row c)
+unfolding inPair inSet
+pair-or a b table row c h = elim (decLt c 64) [
+  | yes l ↦ let d : c / 64 ≡ 0 = omega arith in let z : row * 8 + 0 ≡ row * 8 = omega arith in rw (d, z) (bit-or a (getD table (row * 8) 0) (c % 64))
+  | no l ↦ let d : c / 64 ≡ 1 = omega arith in rw d (bit-or b (getD table (row * 8 + 1) 0) (c % 64))
+]
+
+-- a row of the plan that has the first two words of a row of a table, without what the set has
+pub plan-less : (a b : ℕ) (plan table : List ℕ) (v c : ℕ) → c < 128
+    → getD plan (v * 3 + 1) 0 ≡ bitXor (getD table (v * 8) 0) (bitAnd (getD table (v * 8) 0) a)
+    → getD plan (v * 3 + 2) 0 ≡ bitXor (getD table (v * 8 + 1) 0) (bitAnd (getD table (v * 8 + 1) 0) b)
+    → inPlan plan v c ≡ (inSet table v c && not (inPair a b c))
+unfolding inPair inSet inPlan
+plan-less a b plan table v c h e f = elim (decLt c 64) [
+  | yes l ↦ let d : c / 64 ≡ 0 = omega arith in let z : v * 8 + 0 ≡ v * 8 = omega arith in let y : v * 3 + 1 + 0 ≡ v * 3 + 1 = omega arith in rw (d, z, y, e) (bit-less (getD table (v * 8) 0) a (c % 64))
+  | no l ↦ let d : c / 64 ≡ 1 = omega arith in let y : v * 3 + 1 + 1 ≡ v * 3 + 2 = omega arith in rw (d, y, f) (bit-less (getD table (v * 8 + 1) 0) b (c % 64))
+]
+
+-- so what is covered by such a set is covered by the set or the row
+pub pair-within : (a b : ℕ) (table : List ℕ) (row : ℕ) (dues : ℕ → Bool) (r : Bool)
+    → Within 128 dues (inPair (bitOr a (getD table (row * 8) 0)) (bitOr b (getD table (row * 8 + 1) 0))) r → Within 128 dues (λ c. inPair a b c || inSet table row c) r
+pair-within a b table row dues r w = record {
+  all = λ e c h d. sym (pair-or a b table row c h) ∙ w .all e c h d;
+  only = λ f. w .only (λ c h d. pair-or a b table row c h ∙ f c h d);
+}
