@@ -43,7 +43,7 @@ def settings_of(run):
     return Settings(
         run.k,
         [0x1111111111111111 + i for i in range(run.codes)],
-        [0x22222222 + i for i in range(run.costs)],
+        [0x22222222] * run.costs,
         [0x3333333333333333 + i for i in range(run.queue)],
         store,
         run.held,

@@ -4,7 +4,6 @@
 use listing::call::Answer;
 use listing::call::Counts;
 use listing::run::Ending;
-use std::num::wrapping_add_u32;
 use std::num::wrapping_add_u64;
 use vectors::mixed_all_u32;
 use vectors::mixed_all_u64;
@@ -21,23 +20,12 @@ ghost use lib.ListN.{length};
 ghost use Rattle.vectors.specs.Bytes.{over, mix32, mix64};
 
 // Makes every word junk plus its own place.
-fn fill_u64(words: &mut [u64], junk: u64) {
+fn fill(words: &mut [u64], junk: u64) {
     let mut word = junk;
     let mut i = 0;
     while i < words.len() {
         words[i] = word;
         word = wrapping_add_u64(word, 1);
-        i += 1;
-    }
-}
-
-// Makes every word junk plus its own place.
-fn fill_u32(words: &mut [u32], junk: u32) {
-    let mut word = junk;
-    let mut i = 0;
-    while i < words.len() {
-        words[i] = word;
-        word = wrapping_add_u32(word, 1);
         i += 1;
     }
 }
@@ -116,13 +104,12 @@ fn replay_on(sheet: &[u8], k: u32) {
     let limit = read_u32();
     let given = read_u16();
     let mut codes = [0u64; 65536];
-    let mut costs = [0u32; 65536];
+    let mut costs = [0x2222_2222u32; 65536];
     let mut queue = [0u64; 65536];
     let mut store = [0u64; 65536];
-    fill_u64(&mut codes, 0x1111_1111_1111_1111);
-    fill_u32(&mut costs, 0x2222_2222);
-    fill_u64(&mut queue, 0x3333_3333_3333_3333);
-    fill_u64(&mut store, 0x4444_4444_4444_4444);
+    fill(&mut codes, 0x1111_1111_1111_1111);
+    fill(&mut queue, 0x3333_3333_3333_3333);
+    fill(&mut store, 0x4444_4444_4444_4444);
     read_words(&mut store, given);
     answer(
         sheet,

@@ -26,29 +26,23 @@ read-u32-requires c κs = search needs
 read-u16-requires-6 : tie.Need-read-u16-requires-6
 read-u16-requires-6 c κs = search needs
 
-slice-aggregate-fill-u64 : tie.Need-slice-aggregate-fill-u64
-slice-aggregate-fill-u64 c = search needs
+slice-aggregate-fill : tie.Need-slice-aggregate-fill
+slice-aggregate-fill c = search needs
 
-fill-u64-requires : tie.Need-fill-u64-requires
-fill-u64-requires c κs = search needs
+fill-requires : tie.Need-fill-requires
+fill-requires c κs = search needs
 
-slice-aggregate-fill-u32 : tie.Need-slice-aggregate-fill-u32
-slice-aggregate-fill-u32 c = search needs
+slice-aggregate-fill-2 : tie.Need-slice-aggregate-fill-2
+slice-aggregate-fill-2 c = search needs
 
-fill-u32-requires : tie.Need-fill-u32-requires
-fill-u32-requires c κs = search needs
+fill-requires-2 : tie.Need-fill-requires-2
+fill-requires-2 c κs = search needs
 
-slice-aggregate-fill-u64-2 : tie.Need-slice-aggregate-fill-u64-2
-slice-aggregate-fill-u64-2 c = search needs
+slice-aggregate-fill-3 : tie.Need-slice-aggregate-fill-3
+slice-aggregate-fill-3 c = search needs
 
-fill-u64-requires-2 : tie.Need-fill-u64-requires-2
-fill-u64-requires-2 c κs = search needs
-
-slice-aggregate-fill-u64-3 : tie.Need-slice-aggregate-fill-u64-3
-slice-aggregate-fill-u64-3 c = search needs
-
-fill-u64-requires-3 : tie.Need-fill-u64-requires-3
-fill-u64-requires-3 c κs = search needs
+fill-requires-3 : tie.Need-fill-requires-3
+fill-requires-3 c κs = search needs
 
 slice-aggregate-read-words : tie.Need-slice-aggregate-read-words
 slice-aggregate-read-words c = search needs
@@ -97,14 +91,12 @@ replay-on-spec =
     read-u16-requires-5
     read-u32-requires
     read-u16-requires-6
-    slice-aggregate-fill-u64
-    fill-u64-requires
-    slice-aggregate-fill-u32
-    fill-u32-requires
-    slice-aggregate-fill-u64-2
-    fill-u64-requires-2
-    slice-aggregate-fill-u64-3
-    fill-u64-requires-3
+    slice-aggregate-fill
+    fill-requires
+    slice-aggregate-fill-2
+    fill-requires-2
+    slice-aggregate-fill-3
+    fill-requires-3
     slice-aggregate-read-words
     read-words-requires
     array-borrow-prefix-codes

@@ -1,11 +1,11 @@
--- `replay_listings::fill_u64` meets its contract: the slice keeps its length. The measure is the number of words left. Assumes nothing.
+-- `replay_listings::fill` meets its contract: the slice keeps its length. The measure is the number of words left. Assumes nothing.
 use mathlib.Core.Path.{_≡_}
 use Prim.Native.Nat.{_≤_, _-_}
 use native.Mathlib.Omega.{arith}
 use borrow.Author.Needs.{needs}
 use lib.ListN.{length, length-set}
-use Rattle.replay_listings.proofs.fill_u64.Statement.{statement}
-use Rattle.replay_listings.proofs.fill_u64.Tie as tie
+use Rattle.replay_listings.proofs.fill.Statement.{statement}
+use Rattle.replay_listings.proofs.fill.Tie as tie
 
 abbrev Inv-loop : tie.InvT-loop
 Inv-loop words₀ junk word₀ i₀ words word i = (length words ≡ length words₀) × (i ≤ length words)
@@ -40,8 +40,8 @@ same-length c = omega arith
 returns : tie.Need-returns Inv-loop μ-loop
 returns c = search needs
 
-pub fill-u64-spec : {M : Type 1} → statement M
-fill-u64-spec =
+pub fill-spec : {M : Type 1} → statement M
+fill-spec =
     tie.close
     (tie.spec
     Inv-loop
