@@ -7,7 +7,7 @@ void fill_with_junk(struct lent *lent)
 {
     for (size_t i = 0; i < LENT_MOST; i++) {
         lent->codes[i] = UINT64_C(0x1111111111111111) + i;
-        lent->costs[i] = UINT32_C(0x22222222) + (uint32_t)i;
+        lent->costs[i] = UINT32_C(0x22222222);
         lent->queue[i] = UINT64_C(0x3333333333333333) + i;
         lent->store[i] = UINT64_C(0x4444444444444444) + i;
     }

@@ -1,6 +1,7 @@
 /* Document 01 in C with the design of the proved library: sets of clauses as
  * words, the queue as a binary heap of two-word entries in the lent buffer,
- * the store scanned with word operations. Shares no code with plain.c. */
+ * the store scanned with word operations on masks that it keeps widened. Shares
+ * no code with plain.c. */
 #include "same.h"
 
 #include <stdbool.h>
@@ -26,17 +27,19 @@ struct run {
 /* To the end, without a branch for each entry. */
 static bool manifests_a_stored(const struct run *r, struct entry e)
 {
+    uint64_t wide = widen(mask_of(e));
     bool any = false;
     for (size_t i = 0; i < r->stored; i++)
-        any |= manifests(e, r->store[2 * i], r->store[2 * i + 1]);
+        any |= manifests(e.code, wide, &r->store[2 * i]);
     return any;
 }
 
 /* The place of the first stored conflict that is not resolved, or `stored`. */
 static size_t first_unresolved(const struct run *r, struct entry e)
 {
+    uint64_t wide = widen(mask_of(e));
     size_t i = 0;
-    while (i < r->stored && resolves(e, r->store[2 * i], r->store[2 * i + 1]))
+    while (i < r->stored && resolves(e.code, wide, &r->store[2 * i]))
         i++;
     return i;
 }
@@ -93,7 +96,7 @@ static enum ending put_values(struct run *r, struct entry e, size_t v, size_t bu
 /* Step 4. */
 static enum ending put_resolving(struct run *r, struct entry e, const uint64_t *conflict)
 {
-    uint64_t open = conflict[0] & ~mask_of(e);
+    uint64_t open = narrow(conflict[0]) & ~mask_of(e);
     while (open) {
         size_t v = (size_t)__builtin_clzll(open);
         size_t own = conflict[1] >> (60 - 4 * v) & 15;
@@ -118,8 +121,8 @@ static enum ending learn(struct run *r, struct entry e)
     uint64_t mask = mask_of(e), values = e.code;
     if (reduce(&r->search, &mask, &values) == SPENT)
         return OUT_OF_TRIALS;
-    conflict[0] = mask;
-    conflict[1] = values;
+    conflict[0] = widen(mask);
+    conflict[1] = values & conflict[0];
     r->stored++;
     r->learned++;
     r->queued = sieve(r->queue, r->queued, conflict);
@@ -170,7 +173,7 @@ static bool check_offered(struct run *r, size_t held)
             return false;
         if (answer == CONSISTENT)
             continue;
-        r->store[2 * r->stored] = mask;
+        r->store[2 * r->stored] = widen(mask);
         r->store[2 * r->stored + 1] = values;
         r->stored++;
     }
@@ -242,6 +245,8 @@ uint32_t same_list(const uint8_t *sheet, size_t sheet_len, uint64_t *codes, size
     r.listed = r.tested = r.learned = r.unkept = 0;
     result[0] = steps(&r, held);
     memset(queue, 0, queue_len * sizeof *queue);
+    for (size_t i = 0; i < r.stored; i++)
+        store[2 * i] = narrow(store[2 * i]);
     memset(store + 2 * r.stored, 0, (store_len - 2 * r.stored) * sizeof *store);
     result[1] = r.listed;
     result[2] = r.tested;

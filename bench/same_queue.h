@@ -82,24 +82,36 @@ static void rebuild(uint64_t *queue, size_t n)
 
 /* ---- store ---- */
 
-/* The code's nibbles at unassigned variables never count: the masks see to it. */
-static bool manifests(struct entry e, uint64_t mask, uint64_t values)
+/* While a run lasts an entry is the widened mask and the values. A node's code
+ * at unassigned variables never counts: the masks see to it. */
+static bool manifests(uint64_t code, uint64_t wide, const uint64_t *conflict)
 {
-    return !(mask & ~mask_of(e)) & !((e.code ^ values) & widen(mask));
+    return !((conflict[0] & ~wide) | ((code ^ conflict[1]) & conflict[0]));
 }
 
-static bool resolves(struct entry e, uint64_t mask, uint64_t values)
+static bool resolves(uint64_t code, uint64_t wide, const uint64_t *conflict)
 {
-    return ((e.code ^ values) & widen(mask & mask_of(e))) != 0;
+    return ((code ^ conflict[1]) & wide & conflict[0]) != 0;
+}
+
+/* The mask that was widened. */
+static uint64_t narrow(uint64_t wide)
+{
+    uint64_t w = wide & UINT64_C(0x1111111111111111);
+    w = (w | w >> 3) & UINT64_C(0x0303030303030303);
+    w = (w | w >> 6) & UINT64_C(0x000f000f000f000f);
+    w = (w | w >> 12) & UINT64_C(0x000000ff000000ff);
+    return (w | w >> 24) << 48;
 }
 
 /* Keeps the entries that do not manifest the conflict; how many these are. */
 static size_t sieve(uint64_t *queue, size_t n, const uint64_t *conflict)
 {
+    uint64_t mask = narrow(conflict[0]);
     size_t kept = 0;
     for (size_t i = 0; i < n; i++) {
         struct entry e = entry_at(queue, i);
-        if (!manifests(e, conflict[0], conflict[1]))
+        if (mask & ~mask_of(e) || (e.code ^ conflict[1]) & conflict[0])
             put(queue, kept++, e);
     }
     rebuild(queue, kept);

@@ -83,6 +83,21 @@ struct search {
     set due[VARIABLES_MOST]; /* clauses whose largest unassigned variable it is */
 };
 
+/* A set of the first 128 clauses. */
+struct pair {
+    uint64_t first, second;
+};
+
+static struct pair with_row(struct pair p, const uint64_t *row)
+{
+    return (struct pair){p.first | row[0], p.second | row[1]};
+}
+
+static bool is_in(struct pair p, size_t clause)
+{
+    return clause < 128 && (clause < 64 ? p.first : p.second) >> (clause % 64) & 1;
+}
+
 static bool clause_is_false(const uint8_t *part, size_t count, const uint8_t *values)
 {
     for (size_t i = 0; i < count; i++, part += 3) {
@@ -93,17 +108,83 @@ static bool clause_is_false(const uint8_t *part, size_t count, const uint8_t *va
     return true;
 }
 
-/* The first question of a test, by a scan of the literals. */
-static bool some_clause_is_false(const struct tables *t, const uint8_t *values)
+/* The first question of a test, by a scan of the literals; a clause in `open`
+ * has an unassigned variable. */
+static bool some_clause_is_false(const struct tables *t, const uint8_t *values, struct pair open)
 {
     const uint8_t *part = t->literals;
     for (size_t c = 0; c < t->clauses; c++) {
-        if (clause_is_false(part, t->counts[c], values))
+        if (!is_in(open, c) && clause_is_false(part, t->counts[c], values))
             return true;
         part += 3 * t->counts[c];
     }
     return false;
 }
+
+/* ---- of at most 128 clauses: sets of two words ---- */
+
+/* At an unassigned variable: the next one, and the clauses due. */
+struct row {
+    size_t next;
+    struct pair due;
+};
+
+/* What the variables satisfy and leave open, and the first unassigned one. */
+struct start {
+    struct pair held, open;
+    size_t next;
+};
+
+static struct start make_plan(const struct search *s, struct row *plan)
+{
+    struct start made = {{0, 0}, {0, 0}, s->tables->variables};
+    for (size_t v = s->tables->variables; v-- > 0;) {
+        if (s->values[v] != UNASSIGNED) {
+            made.held = with_row(made.held, s->sets->satisfied[v][s->values[v]]);
+            continue;
+        }
+        const uint64_t *mentioning = s->sets->mentioning[v];
+        plan[v].next = made.next;
+        plan[v].due.first = mentioning[0] & ~made.open.first;
+        plan[v].due.second = mentioning[1] & ~made.open.second;
+        made.open = with_row(made.open, mentioning);
+        made.next = v;
+    }
+    return made;
+}
+
+/* Sets the unassigned variables from v on. */
+static enum answer descend_pairs(struct search *s, const struct row *plan, size_t v, struct pair held)
+{
+    if (v == s->tables->variables)
+        return CONSISTENT;
+    struct row row = plan[v];
+    size_t size = s->tables->sizes[v];
+    for (size_t x = 0; x < size; x++) {
+        if (s->trials >= s->limit)
+            return SPENT;
+        s->trials++;
+        struct pair joined = with_row(held, s->sets->satisfied[v][x]);
+        if (row.due.first & ~joined.first || row.due.second & ~joined.second)
+            continue;
+        s->values[v] = (uint8_t)x;
+        enum answer answer = descend_pairs(s, plan, row.next, joined);
+        if (answer != INCONSISTENT)
+            return answer;
+    }
+    return INCONSISTENT;
+}
+
+static enum answer test_pairs(struct search *s)
+{
+    struct row plan[VARIABLES_MOST];
+    struct start made = make_plan(s, plan);
+    if (some_clause_is_false(s->tables, s->values, made.open))
+        return INCONSISTENT;
+    return descend_pairs(s, plan, made.next, made.held);
+}
+
+/* ---- of any number: sets of eight words ---- */
 
 /* Fills `due` for the unassigned variables, from the last to the first. */
 static void fill_due(struct search *s)
@@ -142,7 +223,7 @@ static bool trial(const uint64_t *held, const uint64_t *satisfied, const uint64_
 }
 
 /* Sets the unassigned variables from v on. */
-static enum answer descend(struct search *s, size_t v, const uint64_t *held)
+static enum answer descend_rows(struct search *s, size_t v, const uint64_t *held)
 {
     while (v < s->tables->variables && s->values[v] != UNASSIGNED)
         v++;
@@ -157,7 +238,7 @@ static enum answer descend(struct search *s, size_t v, const uint64_t *held)
         if (!trial(held, s->sets->satisfied[v][x], s->due[v], joined))
             continue;
         s->values[v] = (uint8_t)x;
-        enum answer answer = descend(s, v + 1, joined);
+        enum answer answer = descend_rows(s, v + 1, joined);
         if (answer != INCONSISTENT)
             return answer;
     }
@@ -165,19 +246,24 @@ static enum answer descend(struct search *s, size_t v, const uint64_t *held)
     return INCONSISTENT;
 }
 
+static enum answer test_rows(struct search *s)
+{
+    set held = {0};
+    if (some_clause_is_false(s->tables, s->values, (struct pair){0, 0}))
+        return INCONSISTENT;
+    fill_due(s);
+    fill_satisfied(s, held);
+    return descend_rows(s, 0, held);
+}
+
 /* Tests the assignment; `trials` goes on from what it was. */
 static enum answer test(struct search *s, uint64_t mask, uint64_t values)
 {
-    set held = {0};
     memset(s->values, UNASSIGNED, s->tables->variables);
     for (size_t v = 0; v < s->tables->decisions; v++)
         if (mask & bit(v))
             s->values[v] = (uint8_t)(values >> (60 - 4 * v) & 15);
-    if (some_clause_is_false(s->tables, s->values))
-        return INCONSISTENT;
-    fill_due(s);
-    fill_satisfied(s, held);
-    return descend(s, 0, held);
+    return s->tables->clauses <= 128 ? test_pairs(s) : test_rows(s);
 }
 
 /* Reduces an assignment found inconsistent: INCONSISTENT, or SPENT. */
