@@ -1,10 +1,11 @@
 /* Measures the stack of a call: a second stack is painted, the deepest search
- * that a sheet allows is run on it, and the lowest byte that changed is found.
- * Prints the bytes; exit status 1 where they are more than LEADING_STACK_BYTES.
- */
+ * that a sheet allows is run on it, with few clauses and with many, and the lowest
+ * byte that changed is found. Prints the bytes; exit status 1 where they are more
+ * than LEADING_STACK_BYTES. */
 #define _XOPEN_SOURCE 700
 #include "leading.h"
 
+#include <stdbool.h>
 #include <stdio.h>
 #include <string.h>
 #include <ucontext.h>
@@ -25,16 +26,17 @@ static void put(size_t *bit, unsigned width, unsigned field)
             sheet[*bit / 8] |= (uint8_t)(0x80 >> *bit % 8);
 }
 
-/* The most variables, of two values each, and clauses that each last value
- * meets: every variable is set, and set again. */
-static void write_sheet(void)
+/* The most variables, of two values each, and for each so many clauses that its
+ * last value meets: every variable is set, and set again. */
+static void write_sheet(unsigned clauses)
 {
     size_t bit = 0;
     unsigned variables = LEADING_PARTS_MOST + LEADING_HIDDEN_MOST;
+    memset(sheet, 0, sizeof sheet);
     put(&bit, 8, LEADING_EDITION);
     put(&bit, 5, LEADING_PARTS_MOST);
     put(&bit, 6, LEADING_HIDDEN_MOST);
-    put(&bit, 10, variables);
+    put(&bit, 10, clauses * variables);
     for (unsigned part = 0; part < LEADING_PARTS_MOST; part++) {
         put(&bit, 4, 1);
         put(&bit, 16, 0);
@@ -42,9 +44,9 @@ static void write_sheet(void)
     }
     for (unsigned hidden = 0; hidden < LEADING_HIDDEN_MOST; hidden++)
         put(&bit, 4, 1);
-    for (unsigned variable = 0; variable < variables; variable++) {
+    for (unsigned clause = 0; clause < clauses * variables; clause++) {
         put(&bit, 4, 1);
-        put(&bit, 6, variable);
+        put(&bit, 6, clause % variables);
         put(&bit, 1, 0);
         put(&bit, 4, 1);
     }
@@ -78,15 +80,23 @@ static size_t used_by(void (*function)(void))
     return sizeof stack - lowest;
 }
 
-int main(void)
+/* Whether the run on a sheet with so many clauses for each variable keeps within. */
+static bool keeps_within(unsigned clauses)
 {
-    write_sheet();
+    write_sheet(clauses);
     call(); /* so that memset is bound already */
     size_t used = used_by(call);
     printf("stack %zu of %d\n", used, LEADING_STACK_BYTES);
     if (result[LEADING_ENDING] != LEADING_ALL || result[LEADING_LISTED] != 1) {
         printf("stack: the run is not the one meant\n");
-        return 1;
+        return false;
     }
-    return used <= LEADING_STACK_BYTES ? 0 : 1;
+    return used <= LEADING_STACK_BYTES;
+}
+
+/* 48 clauses and 480: the test has a search for few clauses and one for many. */
+int main(void)
+{
+    bool few = keeps_within(1), many = keeps_within(10);
+    return few && many ? 0 : 1;
 }
