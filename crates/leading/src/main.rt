@@ -3,7 +3,7 @@
 use libc::STDIN_FILENO;
 use listing::call::Answer;
 use listing::call::Counts;
-use listing::run::Ending;
+use steps::run::Ending;
 use vectors::print_hex16;
 use vectors::print_number;
 use vectors::print_text;

@@ -21,12 +21,12 @@ use Rattle.consistency.specs.Given.{Prepared}
 use Rattle.store.proofs.Callers.{keeps-room}
 use Rattle.conflict.specs.Calls.{groundNumber, refusalOf}
 use Rattle.conflict.specs.declared.calls.Refusal.{Refusal}
-use Rattle.listing.specs.declared.run.Finished.{Finished}
+use Rattle.steps.specs.declared.run.Finished.{Finished}
+use Rattle.steps.specs.declared.run.Ending.{Ending as Ended}
+use Rattle.steps.specs.Run.{Question, FinishedAs, endingOf}
 use Rattle.listing.specs.declared.call.Answer.{Answer as Answers}
 use Rattle.listing.specs.declared.call.Counts.{Counts as Tallies}
-use Rattle.listing.specs.declared.run.Ending.{Ending as Ended}
 use Rattle.listing.proofs.Refusing.{fit, short-given}
-use Rattle.listing.specs.Run.{Question, FinishedAs, endingOf}
 use Rattle.listing.specs.Calls.{question, buffers, Room, Lists, Finishes, countsOf, answerOf, CalledAs, shown, Promises, exported, ExportPromises}
 
 -- ---- over decoded tables

@@ -21,14 +21,14 @@ use Rattle.theory.proofs.WordsCost.{cost-of-code}
 use Rattle.theory.proofs.Listing.{Survived, offers-survive, start-going}
 use Rattle.queue.specs.Queue.{Holds}
 use Rattle.children.specs.Children.{NodeIs}
-use Rattle.listing.specs.Run.{Written, Turn, Steps, FinishedAs}
-use Rattle.listing.specs.Offers.{OfferedAs}
+use Rattle.steps.specs.declared.offers.Offered.{Offered}
+use Rattle.steps.specs.declared.run.Progress.{Progress}
+use Rattle.steps.specs.declared.run.Ending.{Ending as Ended}
+use Rattle.steps.specs.declared.run.Finished.{Finished}
+use Rattle.steps.specs.Offers.{OfferedAs}
+use Rattle.steps.specs.Run.{Written, Turn, Steps, FinishedAs}
+use Rattle.steps.proofs.Running.{tabled-lawful, tabled-present, tabled-at-least, tabled-suits}
 use Rattle.listing.specs.Calls.{question, buffers, Lists, Survivors}
-use Rattle.listing.specs.declared.offers.Offered.{Offered}
-use Rattle.listing.specs.declared.run.Progress.{Progress}
-use Rattle.listing.specs.declared.run.Ending.{Ending as Ended}
-use Rattle.listing.specs.declared.run.Finished.{Finished}
-use Rattle.listing.proofs.Running.{tabled-lawful, tabled-present, tabled-at-least, tabled-suits}
 
 -- ---- the empty assignment as a node
 

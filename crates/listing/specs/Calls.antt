@@ -12,10 +12,10 @@ use Rattle.model.specs.Calls.{refused, answered, Buffers, Counts, ran, Answer, 
 use Rattle.theory.specs.Demand3.{PromisedBy}
 use Rattle.store.specs.Store.{Keeps}
 use Rattle.conflict.specs.Calls.{refusalOf}
+use Rattle.steps.specs.declared.run.Finished.{Finished}
+use Rattle.steps.specs.Run.{Question, Tables, endingOf}
 use Rattle.listing.specs.declared.call.Answer.{Answer as Answers}
 use Rattle.listing.specs.declared.call.Counts.{Counts as Tallies}
-use Rattle.listing.specs.declared.run.Finished.{Finished}
-use Rattle.listing.specs.Run.{Question, Tables, endingOf}
 
 abbrev pub question : Plant → ℕ → (codes costs : List ℕ) → Question
 question p k codes costs = record { plant = p; wanted = k; codes = codes; costs = costs }

@@ -1,13 +1,13 @@
 // The listing call on a sheet and lent buffers, whatever these are, and its export to C.
-use super::offers::Offered;
-use super::offers::check_all;
-use super::run::Ending;
-use super::run::Finished;
-use super::run::Progress;
-use super::run::run;
 use children::Node;
 use conflict::calls::Refusal;
 use consistency::tables::prepare;
+use steps::offers::Offered;
+use steps::offers::check_all;
+use steps::run::Ending;
+use steps::run::Finished;
+use steps::run::Progress;
+use steps::run::run;
 ghost use mathlib.Core.Path.{_≡_};
 ghost use mathlib.Core.List.{List};
 ghost use Prim.Native.Nat.{ℕ, _*_, _/_, _≤_};
@@ -21,7 +21,7 @@ ghost use Rattle.model.specs.Calls.{Buffers, firstGiven, hostGrounds, offersOf,
 ghost use Rattle.theory.specs.Tables.{Tabled};
 ghost use Rattle.children.specs.Children.{NodeIs};
 ghost use Rattle.conflict.specs.Calls.{groundNumber};
-ghost use Rattle.listing.specs.Run.{endingOf, FinishedAs};
+ghost use Rattle.steps.specs.Run.{endingOf, FinishedAs};
 ghost use Rattle.listing.specs.Calls.{question, buffers, Room, Lists, Survivors, Finishes, countsOf, CalledAs, answerOf, shown, Promises, exported, ExportPromises};
 
 // The counts of a run.

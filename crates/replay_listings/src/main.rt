@@ -3,8 +3,8 @@
 // must print was written by the outside program.
 use listing::call::Answer;
 use listing::call::Counts;
-use listing::run::Ending;
 use std::num::wrapping_add_u64;
+use steps::run::Ending;
 use vectors::mixed_all_u32;
 use vectors::mixed_all_u64;
 use vectors::print_hex8;

@@ -8,7 +8,7 @@ use Rattle.model.specs.Assignment.{Assignment}
 use Rattle.model.specs.Listing.{Checked, checked, brokenOff, checkOffers}
 use Rattle.store.specs.Store.{Keeps}
 use Rattle.store.proofs.Callers.{offersFrom}
-use Rattle.listing.specs.declared.offers.Offered.{Offered}
+use Rattle.steps.specs.declared.offers.Offered.{Offered}
 
 -- the entry at place i has been checked: the check goes on behind it, or it is broken off
 abbrev pub CheckedOne : (p : Plant) (limit held i : ℕ) (survivors : List Assignment) (used : ℕ) (before after : List ℕ) → Offered → Type 0

@@ -3,9 +3,9 @@ use native.Mathlib.Omega.{arith}
 use borrow.Author.Needs.{needs}
 use Rattle.consistency.proofs.Endings.{was-consistent, was-inconsistent, was-spent}
 use Rattle.conflict.proofs.Given.{ready-again}
-use Rattle.listing.proofs.Judging.{listed-less, can-count, codes-place, costs-place, judge-most, judge-spent, judge-learn, judge-listed}
-use Rattle.listing.proofs.run.judge.Statement.{statement}
-use Rattle.listing.proofs.run.judge.Tie as tie
+use Rattle.steps.proofs.Judging.{listed-less, can-count, codes-place, costs-place, judge-most, judge-spent, judge-learn, judge-listed}
+use Rattle.steps.proofs.run.judge.Statement.{statement}
+use Rattle.steps.proofs.run.judge.Tie as tie
 
 returns : tie.Need-returns
 returns c q prices tb t full = judge-most t _ (c .if1 .taken)

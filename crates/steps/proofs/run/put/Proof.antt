@@ -1,8 +1,8 @@
--- `listing::run::put` meets its contract: the progress with so many entries, or the ending. Assumes nothing.
+-- `run::put` meets its contract: the progress with so many entries, or the ending. Assumes nothing.
 use mathlib.Core.Path.{refl}
 use borrow.Author.Needs.{needs}
-use Rattle.listing.proofs.run.put.Statement.{statement}
-use Rattle.listing.proofs.run.put.Tie as tie
+use Rattle.steps.proofs.run.put.Statement.{statement}
+use Rattle.steps.proofs.run.put.Tie as tie
 
 enum-told : tie.Need-enum-told
 enum-told c = search needs

@@ -21,7 +21,7 @@ ghost use Rattle.model.specs.Listing.{learn, judge, expand, step, run};
 ghost use Rattle.theory.specs.Nodes.{weights};
 ghost use Rattle.theory.specs.Tables.{Tabled};
 ghost use Rattle.conflict.specs.Given.{Ready};
-ghost use Rattle.listing.specs.Run.{Question, Removed, NextIs, FinishedAs, CanCount, PutNext, Expands, Steps};
+ghost use Rattle.steps.specs.Run.{Question, Removed, NextIs, FinishedAs, CanCount, PutNext, Expands, Steps};
 
 // How far a run is: the entries of queue and store, the states listed, and the counts.
 pub struct Progress {

@@ -16,8 +16,8 @@ use Rattle.theory.proofs.Words.{well-formed-valid, well-formed-words}
 use Rattle.store.specs.Store.{Keeps}
 use Rattle.store.proofs.Callers.{keeps-none, offersFrom, offers-start, offers-step, offers-end, offers-kept}
 use Rattle.conflict.specs.Reduced.{Held}
-use Rattle.listing.specs.declared.offers.Offered.{Offered}
-use Rattle.listing.specs.Offers.{CheckedOne, OfferedAs}
+use Rattle.steps.specs.declared.offers.Offered.{Offered}
+use Rattle.steps.specs.Offers.{CheckedOne, OfferedAs}
 
 module _ {p : Plant} {d : ℕ} {sizes prices counts lits : List ℕ} (t : Tabled p d sizes prices counts lits) where
   -- a well formed entry's words hold its assignment

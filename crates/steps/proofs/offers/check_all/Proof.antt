@@ -7,9 +7,9 @@ use lib.ListN.{length}
 use Rattle.theory.proofs.Tables.{tabled-count, tabled-few}
 use Rattle.conflict.specs.Given.{ForPlant}
 use Rattle.conflict.proofs.Given.{ready-again}
-use Rattle.listing.proofs.Offering.{CheckedTo, checked-start, checked-next, checked-broken, checked-end}
-use Rattle.listing.proofs.offers.check_all.Statement.{statement}
-use Rattle.listing.proofs.offers.check_all.Tie as tie
+use Rattle.steps.proofs.Offering.{CheckedTo, checked-start, checked-next, checked-broken, checked-end}
+use Rattle.steps.proofs.offers.check_all.Statement.{statement}
+use Rattle.steps.proofs.offers.check_all.Tie as tie
 
 abbrev Inv-loop : tie.InvT-loop
 Inv-loop d sizes counts lits sat uses vals₀ store₀ held limit m₀ used₀ i₀ vals store m used i =

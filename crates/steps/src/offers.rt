@@ -9,7 +9,7 @@ ghost use Rattle.model.specs.Listing.{checkOffers};
 ghost use Rattle.model.specs.Calls.{offersOf};
 ghost use Rattle.store.specs.Store.{Keeps};
 ghost use Rattle.conflict.specs.Given.{Ready, ForPlant};
-ghost use Rattle.listing.specs.Offers.{CheckedOne, OneMore, OfferedAs};
+ghost use Rattle.steps.specs.Offers.{CheckedOne, OneMore, OfferedAs};
 
 // How many entries survived, with the trials made: all were checked, or the limit struck before.
 pub enum Offered {

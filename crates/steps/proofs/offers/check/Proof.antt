@@ -5,10 +5,10 @@ use native.Mathlib.Omega.{arith}
 use borrow.Author.Tests.{not-true, not-false}
 use Rattle.theory.proofs.Words.{assignment-length}
 use Rattle.consistency.proofs.Endings.{was-consistent, was-inconsistent, was-spent}
-use Rattle.listing.proofs.Offering.{offer-held, check-malformed, check-consistent, check-spent, check-inconsistent}
+use Rattle.steps.proofs.Offering.{offer-held, check-malformed, check-consistent, check-spent, check-inconsistent}
 use borrow.Author.Needs.{needs}
-use Rattle.listing.proofs.offers.check.Statement.{statement}
-use Rattle.listing.proofs.offers.check.Tie as tie
+use Rattle.steps.proofs.offers.check.Statement.{statement}
+use Rattle.steps.proofs.offers.check.Tie as tie
 
 entry-at-requires : tie.Need-entry-at-requires
 entry-at-requires c κs = search needs

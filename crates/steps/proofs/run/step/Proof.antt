@@ -1,9 +1,9 @@
--- `listing::run::step` meets its contract: one law for each way out. Assumes nothing.
+-- `run::step` meets its contract: one law for each way out. Assumes nothing.
 use borrow.Author.Needs.{needs}
 use native.Mathlib.Omega.{arith}
-use Rattle.listing.proofs.Expanding.{step-enough, step-all, removes, step-removed}
-use Rattle.listing.proofs.run.step.Statement.{statement}
-use Rattle.listing.proofs.run.step.Tie as tie
+use Rattle.steps.proofs.Expanding.{step-enough, step-all, removes, step-removed}
+use Rattle.steps.proofs.run.step.Statement.{statement}
+use Rattle.steps.proofs.run.step.Tie as tie
 
 returns : tie.Need-returns
 returns c t = step-enough t (omega arith)

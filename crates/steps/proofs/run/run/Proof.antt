@@ -1,4 +1,4 @@
--- `listing::run::run` meets its contract. The loop's invariant: lent slices keep their lengths, and the run from the start ends as the run from here. The measure is the weight of the queue, read off its words. Assumes nothing.
+-- `run::run` meets its contract. The loop's invariant: lent slices keep their lengths, and the run from the start ends as the run from here. The measure is the weight of the queue, read off its words. Assumes nothing.
 use mathlib.Core.Path.{_≡_, refl, _∙_}
 use Prim.Native.Nat.{ℕ, suc, _/_, _<_}
 use native.Mathlib.Omega.{arith}
@@ -8,10 +8,10 @@ use Rattle.model.specs.Sheet.{decisionSizes}
 use Rattle.model.specs.Order.{orderOf}
 use Rattle.model.specs.Listing.{run}
 use Rattle.theory.specs.Nodes.{weights}
-use Rattle.listing.specs.Run.{Steps}
-use Rattle.listing.proofs.Running.{queueWeight, Reached, reached-start, reached-steps, reached-end, reached-next}
-use Rattle.listing.proofs.run.run.Statement.{statement}
-use Rattle.listing.proofs.run.run.Tie as tie
+use Rattle.steps.specs.Run.{Steps}
+use Rattle.steps.proofs.Running.{queueWeight, Reached, reached-start, reached-steps, reached-end, reached-next}
+use Rattle.steps.proofs.run.run.Statement.{statement}
+use Rattle.steps.proofs.run.run.Tie as tie
 
 abbrev Inv-loop : tie.InvT-loop
 Inv-loop d sizes prices counts lits sat uses vals₀ preferred codes₀ costs₀ queue₀ store₀ k limit g₀ vals codes costs queue store g =

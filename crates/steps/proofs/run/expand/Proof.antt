@@ -1,9 +1,9 @@
--- `listing::run::expand` meets its contract: one law for each of the steps 4, 5 and 7. Assumes nothing.
+-- `run::expand` meets its contract: one law for each of the steps 4, 5 and 7. Assumes nothing.
 use borrow.Author.Needs.{needs}
 use Rattle.children.proofs.Callers.{tables-of}
-use Rattle.listing.proofs.Expanding.{removed-step, removed-room, found-one, found-none, removed-full, removed-valid, resolved-is, branched-is, judged-is, children-given, judge-given}
-use Rattle.listing.proofs.run.expand.Statement.{statement}
-use Rattle.listing.proofs.run.expand.Tie as tie
+use Rattle.steps.proofs.Expanding.{removed-step, removed-room, found-one, found-none, removed-full, removed-valid, resolved-is, branched-is, judged-is, children-given, judge-given}
+use Rattle.steps.proofs.run.expand.Statement.{statement}
+use Rattle.steps.proofs.run.expand.Tie as tie
 
 values-requires : tie.Need-values-requires
 values-requires c κs = search needs

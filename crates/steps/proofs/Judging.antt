@@ -26,10 +26,10 @@ use Rattle.queue.specs.Queue.{Holds}
 use Rattle.queue.proofs.Callers.{cost-suits}
 use Rattle.store.specs.Store.{Keeps}
 use Rattle.children.specs.declared.Node.{Node}
-use Rattle.listing.specs.declared.run.Progress.{Progress}
-use Rattle.listing.specs.declared.run.Ending.{Ending as Ended}
-use Rattle.listing.specs.declared.run.Next.{Next as After}
-use Rattle.listing.specs.Run.{Question, Written, Removed, CanCount, NextIs}
+use Rattle.steps.specs.declared.run.Progress.{Progress}
+use Rattle.steps.specs.declared.run.Ending.{Ending as Ended}
+use Rattle.steps.specs.declared.run.Next.{Next as After}
+use Rattle.steps.specs.Run.{Question, Written, Removed, CanCount, NextIs}
 
 -- a run so far, by its numbers of entries, its states and its counts
 abbrev pub progress : (queued stored listed tested learned unkept trials : ℕ) → Progress

@@ -1,9 +1,9 @@
 -- `run::learn` meets its contract: one law for each way out. Assumes nothing.
 use native.Mathlib.Omega.{arith}
 use borrow.Author.Needs.{needs}
-use Rattle.listing.proofs.Judging.{learn-unkept, learn-spent, learn-conflict}
-use Rattle.listing.proofs.run.learn.Statement.{statement}
-use Rattle.listing.proofs.run.learn.Tie as tie
+use Rattle.steps.proofs.Judging.{learn-unkept, learn-spent, learn-conflict}
+use Rattle.steps.proofs.run.learn.Statement.{statement}
+use Rattle.steps.proofs.run.learn.Tie as tie
 
 add-t22 : tie.Need-add-t22
 add-t22 c = search needs

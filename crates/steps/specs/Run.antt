@@ -16,10 +16,10 @@ use Rattle.store.specs.Store.{Keeps}
 use Rattle.children.specs.declared.Node.{Node}
 use Rattle.children.specs.declared.Put.{Put}
 use Rattle.children.specs.Children.{NodeIs}
-use Rattle.listing.specs.declared.run.Progress.{Progress}
-use Rattle.listing.specs.declared.run.Ending.{Ending as Ended}
-use Rattle.listing.specs.declared.run.Next.{Next as After}
-use Rattle.listing.specs.declared.run.Finished.{Finished}
+use Rattle.steps.specs.declared.run.Progress.{Progress}
+use Rattle.steps.specs.declared.run.Ending.{Ending as Ended}
+use Rattle.steps.specs.declared.run.Next.{Next as After}
+use Rattle.steps.specs.declared.run.Finished.{Finished}
 
 -- what a run is about: the plant, how many states are wanted, and what codes and costs held before
 pub record Question : Type 0 where

@@ -25,10 +25,10 @@ use Rattle.queue.specs.Queue.{Holds}
 use Rattle.queue.proofs.SumLaws.{sum-map}
 use Rattle.queue.proofs.EntryLaws.{maskIn, valuesIn, node-back}
 use Rattle.queue.proofs.Callers.{cost-suits}
-use Rattle.listing.specs.Run.{Question, Turn, Steps, NextIs, FinishedAs}
-use Rattle.listing.specs.declared.run.Progress.{Progress}
-use Rattle.listing.specs.declared.run.Ending.{Ending as Ended}
-use Rattle.listing.specs.declared.run.Next.{Next as After}
+use Rattle.steps.specs.Run.{Question, Turn, Steps, NextIs, FinishedAs}
+use Rattle.steps.specs.declared.run.Progress.{Progress}
+use Rattle.steps.specs.declared.run.Ending.{Ending as Ended}
+use Rattle.steps.specs.declared.run.Next.{Next as After}
 
 -- ---- what an accepted plant's tables give
 

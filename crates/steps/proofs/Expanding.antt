@@ -33,10 +33,10 @@ use Rattle.children.specs.declared.Put.{Put}
 use Rattle.children.specs.Children.{NodeIs, Step, PutOf, Puts}
 use Rattle.conflict.specs.Given.{Ready}
 use Rattle.conflict.proofs.Given.{tabled-ready}
-use Rattle.listing.specs.declared.run.Progress.{Progress}
-use Rattle.listing.specs.declared.run.Ending.{Ending}
-use Rattle.listing.specs.declared.run.Next.{Next as After}
-use Rattle.listing.specs.Run.{Question, Removed, Expands, Steps, NextIs, PutNext}
+use Rattle.steps.specs.declared.run.Progress.{Progress}
+use Rattle.steps.specs.declared.run.Ending.{Ending}
+use Rattle.steps.specs.declared.run.Next.{Next as After}
+use Rattle.steps.specs.Run.{Question, Removed, Expands, Steps, NextIs, PutNext}
 
 -- ---- steps 4 to 7 with a node removed
 
