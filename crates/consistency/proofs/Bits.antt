@@ -1,12 +1,13 @@
 -- The bits of words, and of what is made of words. Assumes nothing.
-use Prim.Native.Nat.{ℕ, zero, suc, _+_, _*_, _/_, _%_, _^_, _<_, min}
+use Prim.Native.Nat.{ℕ, zero, suc, _+_, _*_, _-_, _/_, _%_, _^_, _<_, _≤_, min}
 use mathlib.Core.Path.{_≡_, refl, sym, ap, ap₂, _∙_}
 use mathlib.Core.Bool.{true, false, not, _&&_, _||_}
 use native.Mathlib.Omega.{arith}
-use native.Mathlib.Nat.{pow-suc, mul-div-cancel, mul-mod-left, zero-min}
+use native.Mathlib.Nat.{pow-suc, mul-div-cancel, mul-mod-left, one-mul, zero-min}
+use native.Mathlib.Decide.{decLt}
 use lib.Bits.{bitAnd, bitOr, bitXor, xor-shr, xor-mod, and-shr, and-mod, or-shr, or-mod, and-step, and-mask, and-le-l, and-le-r, or-add-and, xor-add-and, xor-self}
-use lib.Dec.{eqb, eqb·suc-suc, eqb·zero-suc, eqb·suc-zero}
-use lib.Pow.{shr-shr}
+use lib.Dec.{eqb, eqb·suc-suc, eqb·zero-suc, eqb·suc-zero, lit<}
+use lib.Pow.{shl-exact, shr-shr, suc-ones, ones-lt}
 use borrow.Author.Tests.{eqb-true}
 use Rattle.theory.proofs.Lists.{and-both}
 use Rattle.consistency.specs.Sets.{bit}
@@ -82,6 +83,34 @@ and-within (suc n) a b h f =
 -- and the other way round
 pub within-and : (a b k : ℕ) → bitAnd a b ≡ a → bit a k ≡ true → bit b k ≡ true
 within-and a b k e i = and-both (bit a k) (bit b k) (sym (bit-and a b k) ∙ ap (λ (w : ℕ). bit w k) e ∙ i) .1
+
+-- ---- the first n bits of a word
+
+-- 1 moved up
+pub shl-one : (n : ℕ) → n < 64 → 1 * 2 ^ n % 2 ^ 64 ≡ 2 ^ n
+shl-one n h = shl-exact {a = 1} 1 n 64 (lit< tt) (omega arith) ∙ one-mul (2 ^ n)
+
+-- less one, it has the bits below n
+pub bit-low : (n k : ℕ) → k < n → bit (2 ^ n - 1) k ≡ true
+unfolding bit
+bit-low zero k h = absurd (omega arith)
+bit-low (suc n) zero h = let e : (2 ^ suc n - 1) % 2 ≡ 1 = omega (arith, pow-suc 2 n, suc-ones n) in rw e
+bit-low (suc n) (suc k) h = let e : (2 ^ suc n - 1) / 2 ≡ 2 ^ n - 1 = omega (arith, pow-suc 2 n, suc-ones n) in rw e (bit-low n k (omega arith))
+
+-- a word with each of these is left with all of them by `and`
+pub low-and : (n w : ℕ) → ((k : ℕ) → k < n → bit w k ≡ true) → bitAnd (2 ^ n - 1) w ≡ 2 ^ n - 1
+low-and n w f = and-within n (2 ^ n - 1) w (ones-lt n) (λ k h i. f k h)
+
+-- so it is no less
+pub low-least : (n w : ℕ) → ((k : ℕ) → k < n → bit w k ≡ true) → 2 ^ n - 1 ≤ w
+low-least n w f = omega (arith, low-and n w f, and-le-r (2 ^ n - 1) w)
+
+-- a word has no more than 64
+pub low-most : (n w : ℕ) → w < 2 ^ 64 → ((k : ℕ) → k < n → bit w k ≡ true) → n ≤ 64
+low-most n w b f = elim (decLt 64 n) [
+  | yes h ↦ absurd (omega (arith, low-least 65 w (λ k l. f k (omega arith))))
+  | no h ↦ omega arith
+]
 
 -- a bit as it is read: by a shift and `& 1`
 pub bit-read : (w k : ℕ) → eqb (bitAnd (w / 2 ^ k) 1) 1 ≡ bit w k

@@ -5,18 +5,16 @@ use mathlib.Core.List.{List, []}
 use Prim.Native.Nat.{ℕ, _+_, _*_, _/_, _%_, _^_, _<_, _≤_}
 use native.Mathlib.Omega.{arith}
 use native.Mathlib.Decide.{ℕ-discrete, decLt}
-use native.Mathlib.Nat.{one-mul}
 use borrow.Author.Tests.{ne-eqb, eq-eqb, lt-ltb, le-ltb, le-leb, lt-leb}
 use lib.Bits.{bitOr}
-use lib.Dec.{eqb, ltb, leb, lit<}
+use lib.Dec.{eqb, ltb, leb}
 use lib.ListN.{length, getD, set, List·getD-eq-default}
-use lib.Pow.{shl-exact}
 use lib.Seq.{getD-set-same, getD-set-other}
 use Rattle.model.specs.Sheet.{Literal}
 use Rattle.model.specs.Consistency.{holdsAt}
 use Rattle.theory.specs.Search.{nth}
 use Rattle.consistency.specs.Sets.{bit, inSet, SetOf, Marked, literalRows}
-use Rattle.consistency.proofs.Bits.{bit-or, bit-pow, bit-zero}
+use Rattle.consistency.proofs.Bits.{bit-or, bit-pow, bit-zero, shl-one}
 
 or-off : (b : Bool) → (b || false) ≡ b
 or-off true = refl
@@ -35,9 +33,6 @@ module _ (table : List ℕ) (row c : ℕ) (fits : row * 8 + 8 ≤ length table) 
   abbrev after : List ℕ
   after = set table place (bitOr (getD table place 0) (1 * 2 ^ (c % 64) % 2 ^ 64))
 
-  one : 1 * 2 ^ (c % 64) % 2 ^ 64 ≡ 2 ^ (c % 64)
-  one = shl-exact {a = 1} 1 (c % 64) 64 (lit< tt) (omega arith) ∙ one-mul (2 ^ (c % 64))
-
   -- at the word that was stored
   stored : (k : ℕ) → k / 64 ≡ c / 64 → inSet after row k ≡ (inSet table row k || eqb k c && eqb row row)
   unfolding inSet
@@ -45,7 +40,7 @@ module _ (table : List ℕ) (row c : ℕ) (fits : row * 8 + 8 ≤ length table) 
       rw (
         e,
         getD-set-same table place (bitOr (getD table place 0) (1 * 2 ^ (c % 64) % 2 ^ 64)) 0 (omega arith),
-        one,
+        shl-one (c % 64) (omega arith),
         bit-or (getD table place 0) (2 ^ (c % 64)) (k % 64),
         bit-pow (c % 64) (k % 64),
         eq-eqb row row refl,

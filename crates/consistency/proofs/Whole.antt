@@ -1,14 +1,15 @@
 -- The whole test: from what it is given to where the search starts. Assumes nothing.
-use mathlib.Core.Path.{_≡_, refl, sym, _∙_}
+use mathlib.Core.Path.{_≡_, refl, sym, ap, ap₂, _∙_}
 use mathlib.Core.Bool.{Bool, true, false, not, _||_, true≢false}
 use mathlib.Core.List.{List, map}
 use Prim.Native.Nat.{ℕ, _-_, _≤_}
 use native.Mathlib.Omega.{arith}
 use native.Mathlib.Decide.{decLt}
+use lib.Bits.{bitOr}
 use lib.ListN.{length}
 use Rattle.model.specs.Consistency.{clauseFalse, anyFalse, explore}
 use Rattle.theory.specs.Tables.{clauses}
-use Rattle.theory.specs.Search.{nth, satisfied}
+use Rattle.theory.specs.Search.{nth}
 use Rattle.theory.proofs.Search.{false-filled}
 use Rattle.theory.proofs.TableClauses.{clauses-length}
 use Rattle.consistency.specs.declared.Answer.{Answer}
@@ -18,7 +19,7 @@ use Rattle.consistency.specs.Sets.{inSet, inPair}
 use Rattle.consistency.specs.Given.{Tables, Given, Lent, Starts, Bytes, Searches, inPlan, Planned, PlanRoom}
 use Rattle.consistency.proofs.Endings.{as-inconsistent, moved}
 use Rattle.consistency.proofs.FirstSets.{from-end}
-use Rattle.consistency.proofs.Pairs.{pair-past}
+use Rattle.consistency.proofs.Pairs.{pair-past, pair-join}
 use Rattle.consistency.proofs.Turns.{passed-over}
 
 module _ (sizes counts lits sat uses vals : List ℕ) (g : Given sizes counts lits sat uses vals) where
@@ -69,19 +70,20 @@ module _ (sizes counts lits sat uses vals : List ℕ) (g : Given sizes counts li
 
   -- ---- on sets of two words
 
-  module _ (few : length counts ≤ 128) (plan : List ℕ) (first : ℕ) (inHeld : ℕ → Bool) (open1 open2 : ℕ) (p : Planned vals sat uses plan first inHeld (inPair open1 open2) 0) where
-    -- a clause that is left open is not false
-    pub open-clear : (c : ℕ) → inPair open1 open2 c ≡ true → clauseFalse (map given vals) (nth (clauses counts lits) c) ≡ false
-    open-clear c e = elim (decLt c 128) [
-      | yes l ↦ false-filled (map given vals) (nth (clauses counts lits) c) 0 tt
-          ∙ rw (sym (p .sets (clauses counts lits) record { below = tables-vals .below; ready = g .ready } .waiting .has c l) ∙ e) (either (satisfied (map given vals) (nth (clauses counts lits) c)))
-      | no l ↦ absurd (true≢false (sym e ∙ pair-past open1 open2 c (omega arith)))
-    ]
-      where
-        either : (b : Bool) → not (b || true) ≡ false
-        either true = refl
-        either false = refl
+  -- a clause that is satisfied or left open is not false
+  pub settled-clear : (plan : List ℕ) (first held1 held2 open1 open2 : ℕ) → Planned vals sat uses plan first (inPair held1 held2) (inPair open1 open2) 0
+      → (c : ℕ) → inPair (bitOr held1 open1) (bitOr held2 open2) c ≡ true → clauseFalse (map given vals) (nth (clauses counts lits) c) ≡ false
+  settled-clear plan first held1 held2 open1 open2 p c e = elim (decLt c 128) [
+    | yes l ↦
+        let cs = clauses counts lits in
+        let s = p .sets cs record { below = tables-vals .below; ready = g .ready } in
+        let h = from-end 128 vals cs (inPlan plan) (inPair held1 held2) (inPair open1 open2) s in
+        false-filled (map given vals) (nth cs c) 0 tt
+        ∙ ap not (sym (ap₂ _||_ (h .holds .has c l) (s .waiting .has c l)) ∙ sym (pair-join held1 held2 open1 open2 c) ∙ e)
+    | no l ↦ absurd (true≢false (sym e ∙ pair-past (bitOr held1 open1) (bitOr held2 open2) c (omega arith)))
+  ]
 
+  module _ (few : length counts ≤ 128) (plan : List ℕ) (first : ℕ) (inHeld : ℕ → Bool) (open1 open2 : ℕ) (p : Planned vals sat uses plan first inHeld (inPair open1 open2) 0) where
     -- the search has its room at the first unassigned variable
     pub room-planned : 144 ≤ length plan → PlanRoom sizes sat plan vals first
     room-planned long = record {

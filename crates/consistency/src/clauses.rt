@@ -9,8 +9,11 @@ ghost use Rattle.model.specs.Consistency.{holdsAt, clauseFalse, anyFalse};
 ghost use Rattle.theory.specs.Tables.{literals, clauses};
 ghost use Rattle.theory.specs.Search.{nth};
 ghost use Rattle.consistency.specs.Answers.{given, failsAt};
-ghost use Rattle.consistency.specs.Sets.{inPair};
+ghost use Rattle.consistency.specs.Sets.{bit, inPair, Within};
 ghost use Rattle.consistency.specs.Given.{Tables};
+
+// The word with all its bits.
+const FULL: u64 = 0xffff_ffff_ffff_ffff;
 
 // The byte as an index.
 pub fn wide(x: u8) -> usize
@@ -68,28 +71,53 @@ fn is_in(first: u64, second: u64, c: usize) -> bool
     false
 }
 
-// Whether the clause whose literals the part holds is false, where it is known whether it has an unassigned variable.
-fn fails(part: &[u8], vals: &[u8], waits: bool) -> bool
-    requires { ⌜ All (λ l. l .variable < length (now vals)) (literals (now part)) × (waits ≡ true → clauseFalse (map given (now vals)) (literals (now part)) ≡ false) ⌝ }
+// Whether the word has each of its first n bits.
+fn has_low(word: u64, n: usize) -> bool
+    ensures { λ r. ⌜ Within n (λ _. true) (bit word) r ⌝ }
+{
+    if n < 64 {
+        let low = (1u64 << n) - 1;
+        return low & word == low;
+    }
+    (n == 64) & (word == FULL)
+}
+
+// Whether the set of the two words has each of the first n clauses.
+fn has_all(first: u64, second: u64, n: usize) -> bool
+    ensures { λ r. ⌜ Within n (λ _. true) (inPair first second) r ⌝ }
+{
+    if n <= 64 {
+        return has_low(first, n);
+    }
+    has_low(first, 64) & has_low(second, n - 64)
+}
+
+// Whether the clause whose literals the part holds is false; where it is `clear` it is known not to be.
+fn fails(part: &[u8], vals: &[u8], clear: bool) -> bool
+    requires { ⌜ All (λ l. l .variable < length (now vals)) (literals (now part)) × (clear ≡ true → clauseFalse (map given (now vals)) (literals (now part)) ≡ false) ⌝ }
     ensures { λ r. ⌜ r ≡ clauseFalse (map given (now (vals .entry))) (literals (now (part .entry))) ⌝ }
 {
-    if waits {
+    if clear {
         return false;
     }
     clause_false(part, vals)
 }
 
-// Whether some clause is false. None of the clauses in the set of the two words is, so that these need no look.
-pub fn any_false(counts: &[u8], lits: &[u8], vals: &[u8], open1: u64, open2: u64) -> bool
+// Whether some clause is false. None of the clauses in the set of the two words is, so that these need no look; where all
+// are in it, nothing is left to ask.
+pub fn any_false(counts: &[u8], lits: &[u8], vals: &[u8], clear1: u64, clear2: u64) -> bool
     requires { ⌜ Tables (length (now vals)) (now counts) (now lits)
-        × ((c : ℕ) → inPair open1 open2 c ≡ true → clauseFalse (map given (now vals)) (nth (clauses (now counts) (now lits)) c) ≡ false) ⌝ }
+        × ((c : ℕ) → inPair clear1 clear2 c ≡ true → clauseFalse (map given (now vals)) (nth (clauses (now counts) (now lits)) c) ≡ false) ⌝ }
     ensures { λ r. ⌜ r ≡ anyFalse (map given (now (vals .entry))) (clauses (now (counts .entry)) (now (lits .entry))) ⌝ }
 {
+    if has_all(clear1, clear2, counts.len()) {
+        return false;
+    }
     let mut at = 0;
     let mut i = 0;
     while i < counts.len() {
         let end = at + 3 * wide(counts[i]);
-        if fails(&lits[at..end], vals, is_in(open1, open2, i)) {
+        if fails(&lits[at..end], vals, is_in(clear1, clear2, i)) {
             return true;
         }
         at = end;

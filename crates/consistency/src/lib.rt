@@ -41,7 +41,7 @@ fn test_pairs(
 {
     let mut plan = [0u64; 144];
     let s = pair_search::start(vals, sat, uses, &mut plan);
-    if any_false(counts, lits, vals, s.open1, s.open2) {
+    if any_false(counts, lits, vals, s.held1 | s.open1, s.held2 | s.open2) {
         return Answer::Inconsistent(used);
     }
     pair_search::search(

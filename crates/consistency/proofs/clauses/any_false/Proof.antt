@@ -1,28 +1,36 @@
--- `clauses::any_false` meets its contract. The loop: some clause is false exactly if one from i on is; a clause of the set is known not to be. Assumes nothing.
+-- `clauses::any_false` meets its contract. Where the set has all clauses, none is false. The loop: some clause is false exactly if one from i on is; a clause of the set is known not to be. Assumes nothing.
 use mathlib.Core.Path.{_≡_, refl, sym, _∙_}
 use mathlib.Core.List.{map}
 use Prim.Native.Nat.{_+_, _*_, _-_}
 use lib.ListN.{length, drop}
 use Rattle.model.specs.Consistency.{anyFalse}
 use Rattle.theory.specs.Tables.{clauses}
-use Rattle.theory.proofs.TableClauses.{Along, along-first, along-room, along-below, along-next, along-nth}
+use Rattle.theory.proofs.TableClauses.{clauses-length, Along, along-first, along-room, along-below, along-next, along-nth}
 use Rattle.consistency.specs.Answers.{given}
-use Rattle.consistency.proofs.Parts.{any-step, any-end}
+use Rattle.consistency.proofs.Parts.{any-step, any-end, any-clear}
 use native.Mathlib.Omega.{arith}
 use borrow.Author.Needs.{needs}
 use Rattle.consistency.proofs.clauses.any_false.Statement.{statement}
 use Rattle.consistency.proofs.clauses.any_false.Tie as tie
 
 abbrev Inv-loop : tie.InvT-loop
-Inv-loop counts lits vals open1 open2 at₀ i₀ at i =
+Inv-loop counts lits vals clear1 clear2 at₀ i₀ at i =
     Along (length vals) counts lits i at
     × (anyFalse (map given vals) (clauses counts lits) ≡ anyFalse (map given vals) (drop i (clauses counts lits)))
 
 abbrev μ-loop : tie.MeasureT-loop
-μ-loop counts lits vals open1 open2 at₀ i₀ at i = length counts - i
+μ-loop counts lits vals clear1 clear2 at₀ i₀ at i = length counts - i
+
+has-all-requires : tie.Need-has-all-requires Inv-loop μ-loop
+has-all-requires c κs = search needs
+
+returns : tie.Need-returns Inv-loop μ-loop
+returns c =
+    let s = c .before .before .before .before .before in
+    sym (any-clear _ _ (λ k l. s .pre .1 k (c .before .has-all .ensures .all (c .if1 .taken) k (omega (arith, clauses-length (s .args .counts .now) (s .args .lits .now))) refl)))
 
 loop-holds : tie.Need-loop-holds Inv-loop μ-loop
-loop-holds c = (along-first _ _ _ (c .before .before .before .pre .0 .room) (c .before .before .before .pre .0 .below), refl)
+loop-holds c = let g = c .before .before .before .before .before .pre .0 in (along-first _ _ _ (g .room) (g .below), refl)
 
 shared-slice-read-wide : tie.Need-shared-slice-read-wide Inv-loop μ-loop
 shared-slice-read-wide c = omega arith
@@ -50,7 +58,7 @@ is-in-requires c κs = search needs
 
 fails-requires : tie.Need-fails-requires Inv-loop μ-loop
 fails-requires c κs =
-    let s = c .before .before .before .before .before .before .before .before .before in
+    let s = c .before .before .before .before .before .before .before .before .before .before .before in
     let h = c .before .before .before .before .before .loop in
     let lt = c .before .before .before .before .loop-test .taken in
     let x = c .before .before .wide in
@@ -58,13 +66,13 @@ fails-requires c κs =
     rw (e, x .ensures)
     (along-below _ _ _ _ _ (h .inv .0) lt, λ w. rw (along-nth _ _ _ _ _ (h .inv .0) lt) at (s .pre .1 (h .i) (sym (c .is-in .ensures) ∙ w)))
 
-returns : tie.Need-returns Inv-loop μ-loop
-returns c =
+returns-2 : tie.Need-returns-2 Inv-loop μ-loop
+returns-2 c =
     let h = c .before .before .before .before .before .before .before .loop in
     let x = c .before .before .before .before .wide in
     let lt = c .before .before .before .before .before .before .loop-test .taken in
     let e : h .at + 3 * x .result - h .at ≡ 3 * x .result = omega arith in
-    sym (h .inv .1 ∙ any-step _ _ _ _ _ _ (h .inv .0) lt _ (rw (e, x .ensures) at (c .before .fails .ensures)) ∙ rw (c .if1 .taken))
+    sym (h .inv .1 ∙ any-step _ _ _ _ _ _ (h .inv .0) lt _ (rw (e, x .ensures) at (c .before .fails .ensures)) ∙ rw (c .if2 .taken))
 
 add-i : tie.Need-add-i Inv-loop μ-loop
 add-i c = omega arith
@@ -79,11 +87,11 @@ loop-again c =
     let x = c .before .before .before .before .wide in
     let e : h .at + 3 * x .result - h .at ≡ 3 * x .result = omega arith in (
       rw (x .ensures) (along-next _ _ _ _ _ (h .inv .0) lt),
-      h .inv .1 ∙ any-step _ _ _ _ _ _ (h .inv .0) lt _ (rw (e, x .ensures) at (c .before .fails .ensures)) ∙ rw (c .if1 .left),
+      h .inv .1 ∙ any-step _ _ _ _ _ _ (h .inv .0) lt _ (rw (e, x .ensures) at (c .before .fails .ensures)) ∙ rw (c .if2 .left),
     )
 
-returns-2 : tie.Need-returns-2 Inv-loop μ-loop
-returns-2 c = sym (c .before .loop .inv .1 ∙ any-end _ _ _ _ _ _ (c .before .loop .inv .0) (c .loop-test .left))
+returns-3 : tie.Need-returns-3 Inv-loop μ-loop
+returns-3 c = sym (c .before .loop .inv .1 ∙ any-end _ _ _ _ _ _ (c .before .loop .inv .0) (c .loop-test .left))
 
 pub any-false-spec : {M : Type 1} → statement M
 any-false-spec =
@@ -91,6 +99,8 @@ any-false-spec =
     (tie.spec
     Inv-loop
     μ-loop
+    has-all-requires
+    returns
     loop-holds
     shared-slice-read-wide
     wide-requires
@@ -101,8 +111,8 @@ any-false-spec =
     part-fails-end
     is-in-requires
     fails-requires
-    returns
+    returns-2
     add-i
     loop-less
     loop-again
-    returns-2)
+    returns-3)

@@ -1,4 +1,4 @@
--- `clauses::fails` meets its contract: where the clause waits, it is known that it is not false. Assumes nothing.
+-- `clauses::fails` meets its contract: a clear clause is known not to be false. Assumes nothing.
 use mathlib.Core.Path.{sym}
 use borrow.Author.Needs.{needs}
 use Rattle.consistency.proofs.clauses.fails.Statement.{statement}
