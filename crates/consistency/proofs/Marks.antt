@@ -139,6 +139,33 @@ module _ (var sign value : ℕ) where
     | no p ↦ rw (ne-eqb (var * 16 + x) r (λ e. p (sym e))) (same-from x r (λ q. rw (literalRows, ne-eqb var (r / 16) (λ d. p (omega arith)))))
   ]
 
+-- ---- the row of an equal literal
+
+module _ (var value : ℕ) where
+  rows-equal : (r : ℕ) → value < 16 → literalRows var 0 value r ≡ eqb (var * 16 + value) r
+  unfolding literalRows holdsAt
+  rows-equal r h = elim (ℕ-discrete r (var * 16 + value)) [
+    | yes p ↦
+        let m : r % 16 ≡ value = omega arith in
+        let d : var ≡ r / 16 = omega arith in
+        rw (m, eq-eqb (var * 16 + value) r (sym p), eq-eqb var (r / 16) d, eq-eqb value value refl)
+    | no p ↦ rw (ne-eqb (var * 16 + value) r (λ e. p (sym e))) (elim (ℕ-discrete (r % 16) value) [
+      | yes m ↦ rw (ne-eqb var (r / 16) (λ d. p (omega arith)))
+      | no m ↦ rw (ne-eqb (r % 16) value m) (and-off (eqb var (r / 16)))
+    ])
+  ]
+
+  -- of a value below 16 there is one
+  pub equal-marked : (before : List ℕ) (c : ℕ) (after : List ℕ) → value < 16 → Marked (λ r. eqb (var * 16 + value) r) before c after → Marked (literalRows var 0 value) before c after
+  equal-marked before c after h m = record { has = λ r k l. rw (rows-equal r h) (m .has r k l) }
+
+  -- of any other there is none
+  pub beyond-marked : (table : List ℕ) (c : ℕ) → 16 ≤ value → Marked (literalRows var 0 value) table c table
+  unfolding literalRows holdsAt
+  beyond-marked table c h =
+      marking-end (literalRows var 0 value) (literalRows var 0 value) table c table (marking-first (literalRows var 0 value) table c)
+      (λ r. rw (ne-eqb (r % 16) value (λ e. omega arith)) (and-off (eqb var (r / 16))))
+
 -- ---- clause after clause
 
 -- the table has the rows of the clauses before i

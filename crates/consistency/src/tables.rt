@@ -15,6 +15,13 @@ fn mark(sat: &mut [u64], var: usize, sign: u8, value: u8, c: usize)
     requires { ⌜ (var < 48) × (6144 ≤ length (now sat)) × (c < 512) ⌝ }
     ensures { λ r. ⌜ Marked (literalRows var sign value) (now (sat .entry)) c (now (sat .exit)) ⌝ }
 {
+    // An equal literal holds at one value, so that there is no need to try each.
+    if sign == 0 {
+        if value < 16 {
+            add(sat, var * 16 + wide(value), c);
+        }
+        return;
+    }
     let mut x: u8 = 0;
     while x < 16 {
         if holds(x, sign, value) {
