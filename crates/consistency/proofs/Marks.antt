@@ -1,6 +1,6 @@
 -- Clauses put into the rows of a table, one after the other. Assumes nothing.
 use mathlib.Core.Path.{_≡_, refl, sym, ap, _∙_}
-use mathlib.Core.Bool.{Bool, true, false, _&&_, _||_}
+use mathlib.Core.Bool.{Bool, true, false, _&&_, _||_, and-false, or-false}
 use mathlib.Core.List.{List, []}
 use Prim.Native.Nat.{ℕ, _+_, _*_, _/_, _%_, _^_, _<_, _≤_}
 use native.Mathlib.Omega.{arith}
@@ -15,14 +15,6 @@ use Rattle.model.specs.Consistency.{holdsAt}
 use Rattle.theory.specs.Search.{nth}
 use Rattle.consistency.specs.Sets.{bit, inSet, SetOf, Marked, literalRows}
 use Rattle.consistency.proofs.Bits.{bit-or, bit-pow, bit-zero, shl-one}
-
-or-off : (b : Bool) → (b || false) ≡ b
-or-off true = refl
-or-off false = refl
-
-and-off : (b : Bool) → (b && false) ≡ false
-and-off true = refl
-and-off false = refl
 
 -- ---- one bit more
 
@@ -55,7 +47,7 @@ module _ (table : List ℕ) (row c : ℕ) (fits : row * 8 + 8 ≤ length table) 
   others : (r k : ℕ) → k < 512 → (r * 8 + k / 64 ≡ place → ⊥) → (eqb k c && eqb row r) ≡ false → inSet after r k ≡ (inSet table r k || eqb k c && eqb row r)
   unfolding inSet
   others r k h ne off =
-      rw (getD-set-other table place (r * 8 + k / 64) (bitOr (getD table place 0) (1 * 2 ^ (c % 64) % 2 ^ 64)) 0 ne, off, or-off (bit (getD table (r * 8 + k / 64) 0) (k % 64)))
+      rw (getD-set-other table place (r * 8 + k / 64) (bitOr (getD table place 0) (1 * 2 ^ (c % 64) % 2 ^ 64)) 0 ne, off, or-false (bit (getD table (r * 8 + k / 64) 0) (k % 64)))
 
   pub add-marked : Marked (λ r. eqb row r) table c after
   add-marked = record { has = λ r k h. go r k h (ℕ-discrete r row) (ℕ-discrete (k / 64) (c / 64)) }
@@ -63,7 +55,7 @@ module _ (table : List ℕ) (row c : ℕ) (fits : row * 8 + 8 ≤ length table) 
       go : (r k : ℕ) → k < 512 → Dec (r ≡ row) → Dec (k / 64 ≡ c / 64) → inSet after r k ≡ (inSet table r k || eqb k c && eqb row r)
       go r k h (yes p) (yes q) = rw p (stored k q)
       go r k h (yes p) (no q) = others r k h (λ e. q (omega arith)) (rw (ne-eqb k c (λ e. q (rw e))))
-      go r k h (no p) q = others r k h (λ e. p (omega arith)) (rw (ne-eqb row r (λ e. p (sym e))) (and-off (eqb k c)))
+      go r k h (no p) q = others r k h (λ e. p (omega arith)) (rw (ne-eqb row r (λ e. p (sym e))) (and-false (eqb k c)))
 
 -- ---- on the way
 
@@ -95,7 +87,7 @@ marking-skip rest next rows before c a m e = record { has = λ r k h. ap (λ (b 
 pub marking-end : (rest rows : ℕ → Bool) (before : List ℕ) (c : ℕ) (now : List ℕ) → Marking rest rows before c now
     → ((r : ℕ) → rest r ≡ false) → Marked rows before c now
 marking-end rest rows before c now m off = record {
-  has = λ r k h. sym (ap (λ (b : Bool). inSet now r k || eqb k c && b) (off r) ∙ ap (λ (b : Bool). inSet now r k || b) (and-off (eqb k c)) ∙ or-off (inSet now r k)) ∙ m .has r k h;
+  has = λ r k h. sym (ap (λ (b : Bool). inSet now r k || eqb k c && b) (off r) ∙ ap (λ (b : Bool). inSet now r k || b) (and-false (eqb k c)) ∙ or-false (inSet now r k)) ∙ m .has r k h;
 }
 
 -- ---- the rows of a literal, value by value
@@ -119,14 +111,14 @@ module _ (var sign value : ℕ) where
   same-from x r off = go (ℕ-discrete (r % 16) x) (decLt (r % 16) x)
     where
       go : Dec (r % 16 ≡ x) → Dec (r % 16 < x) → (leb x (r % 16) && literalRows var sign value r) ≡ (leb (x + 1) (r % 16) && literalRows var sign value r)
-      go (yes p) q = rw (off p) (and-off (leb x (r % 16)) ∙ sym (and-off (leb (x + 1) (r % 16))))
+      go (yes p) q = rw (off p) (and-false (leb x (r % 16)) ∙ sym (and-false (leb (x + 1) (r % 16))))
       go (no p) (yes q) = rw (lt-leb x (r % 16) q, lt-leb (x + 1) (r % 16) (omega arith))
       go (no p) (no q) = rw (le-leb x (r % 16) (omega arith), le-leb (x + 1) (r % 16) (omega arith))
 
   -- a value at which the literal does not hold
   pub rows-fail : (x r : ℕ) → holdsAt x sign value ≡ false → rowsFrom x r ≡ rowsFrom (x + 1) r
   unfolding literalRows
-  rows-fail x r e = same-from x r (λ p. rw (p, e) (and-off (eqb var (r / 16))))
+  rows-fail x r e = same-from x r (λ p. rw (p, e) (and-false (eqb var (r / 16))))
 
   -- a value at which it does
   pub rows-hold : (x r : ℕ) → x < 16 → holdsAt x sign value ≡ true → rowsFrom x r ≡ (eqb (var * 16 + x) r || rowsFrom (x + 1) r)
@@ -151,7 +143,7 @@ module _ (var value : ℕ) where
         rw (m, eq-eqb (var * 16 + value) r (sym p), eq-eqb var (r / 16) d, eq-eqb value value refl)
     | no p ↦ rw (ne-eqb (var * 16 + value) r (λ e. p (sym e))) (elim (ℕ-discrete (r % 16) value) [
       | yes m ↦ rw (ne-eqb var (r / 16) (λ d. p (omega arith)))
-      | no m ↦ rw (ne-eqb (r % 16) value m) (and-off (eqb var (r / 16)))
+      | no m ↦ rw (ne-eqb (r % 16) value m) (and-false (eqb var (r / 16)))
     ])
   ]
 
@@ -164,7 +156,7 @@ module _ (var value : ℕ) where
   unfolding literalRows holdsAt
   beyond-marked table c h =
       marking-end (literalRows var 0 value) (literalRows var 0 value) table c table (marking-first (literalRows var 0 value) table c)
-      (λ r. rw (ne-eqb (r % 16) value (λ e. omega arith)) (and-off (eqb var (r / 16))))
+      (λ r. rw (ne-eqb (r % 16) value (λ e. omega arith)) (and-false (eqb var (r / 16))))
 
 -- ---- clause after clause
 
@@ -184,7 +176,7 @@ module _ (rows : List Literal → ℕ → Bool) (cs : List (List Literal)) where
     where
       go : (r k : ℕ) → Dec (k ≡ i) → Dec (k < i) → (ltb k i && rows (nth cs k) r || eqb k i && rows ls r) ≡ (ltb k (i + 1) && rows (nth cs k) r)
       go r k (yes p) q = rw (p, e, le-ltb i i (omega arith), lt-ltb i (i + 1) (omega arith), eq-eqb i i refl)
-      go r k (no p) (yes q) = rw (ne-eqb k i p, lt-ltb k i q, lt-ltb k (i + 1) (omega arith)) (or-off (rows (nth cs k) r))
+      go r k (no p) (yes q) = rw (ne-eqb k i p, lt-ltb k i q, lt-ltb k (i + 1) (omega arith)) (or-false (rows (nth cs k) r))
       go r k (no p) (no q) = rw (ne-eqb k i p, le-ltb k i (omega arith), le-ltb k (i + 1) (omega arith))
 
   -- all of them

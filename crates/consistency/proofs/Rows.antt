@@ -11,9 +11,8 @@ use lib.Bits.{bitAnd, bitOr, bitXor}
 use lib.Dec.{eqb}
 use lib.ListN.{length, getD, set, length-set}
 use lib.Seq.{getD-set-same, getD-set-other}
-use Rattle.theory.proofs.Lists.{and-both}
 use Rattle.consistency.specs.Sets.{bit, inSet, Joined, Covers, Less}
-use Rattle.consistency.proofs.Bits.{bit-and, bit-or, bit-less, and-within, none-lacks, lacks-none}
+use Rattle.consistency.proofs.Bits.{bit-or, bit-less, and-within, within-and, none-lacks, lacks-none}
 
 -- a set in row 0
 in-first : (held : List ℕ) (c : ℕ) → inSet held 0 c ≡ bit (getD held (c / 64) 0) (c % 64)
@@ -70,10 +69,7 @@ module _ (table held : List ℕ) (row : ℕ) where
   -- so each clause of the row is in the set
   pub inside-all : ((j : ℕ) → j < 8 → Inside j) → (c : ℕ) → c < 512 → inSet table row c ≡ true → inSet held 0 c ≡ true
   unfolding inSet
-  inside-all f c h i =
-      in-first held c
-      ∙ and-both (bit (getD table (row * 8 + c / 64) 0) (c % 64)) (bit (getD held (c / 64) 0) (c % 64))
-      (sym (bit-and (getD table (row * 8 + c / 64) 0) (getD held (c / 64) 0) (c % 64)) ∙ ap (λ (w : ℕ). bit w (c % 64)) (f (c / 64) (omega arith)) ∙ i) .1
+  inside-all f c h i = in-first held c ∙ within-and (getD table (row * 8 + c / 64) 0) (getD held (c / 64) 0) (c % 64) (f (c / 64) (omega arith)) i
 
   -- and the other way round
   pub all-inside : ((c : ℕ) → c < 512 → inSet table row c ≡ true → inSet held 0 c ≡ true) → (j : ℕ) → j < 8 → getD table (row * 8 + j) 0 < 2 ^ 64 → Inside j
