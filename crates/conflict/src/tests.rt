@@ -40,7 +40,7 @@ pub fn tested(
     sizes: &[u8],
     counts: &[u8],
     lits: &[u8],
-    sat: &[u64],
+    sat: &[u64; 6144],
     uses: &[u64],
     vals: &mut [u8],
     mask: u64,

@@ -69,3 +69,9 @@ filled-values (b ∷ vals) f = ap₂ _∷_ (go (given b) (f .0) ∙ byte-given b
     go : (o : Option ℕ) → isSome o ≡ true → nibble o ≡ byte o
     go none h = absurd (false≢true h)
     go (some x) h = refl
+
+-- and none is 16
+pub all-given : (vals : List ℕ) → Filled (length vals) (map given vals) → (u : ℕ) → u < length vals → getD vals u 0 ≡ 16 → ⊥
+all-given [] f u h e = absurd (omega arith)
+all-given (b ∷ vals) f zero h e = false≢true (ap isSome (sym (given-none b e)) ∙ f .0)
+all-given (b ∷ vals) f (suc u) h e = all-given vals (f .1) u (omega arith) e

@@ -1,12 +1,12 @@
 -- How the model's test ends and how the code does: from one to the other and back. Assumes nothing.
 use mathlib.Core.Path.{_≡_, refl}
 use mathlib.Core.List.{List}
-use Prim.Native.Nat.{ℕ, zero, suc, _+_, _/_, _%_, _<_}
+use Prim.Native.Nat.{ℕ, zero, suc, _+_, _-_, _/_, _%_, _<_, _≤_}
 use native.Mathlib.Omega.{arith}
 use Rattle.model.specs.Consistency.{Tested, consistent, inconsistent, spent}
 use Rattle.consistency.specs.declared.Answer.{Answer}
 use Rattle.consistency.specs.declared.Answer.the-variants.{Consistent, Inconsistent, Spent}
-use Rattle.consistency.specs.Answers.{answerOf, leaves, Ended, answerAs, answerIn}
+use Rattle.consistency.specs.Answers.{answerOf, leaves, Ended, answerAs, answerIn, told, trialsIn, filledFrom, afterwards}
 
 module _ (e : Tested) (before after : List ℕ) (t : ℕ) where
   pub as-consistent : e ≡ consistent after t → Ended e before after (Consistent t)
@@ -81,3 +81,76 @@ unfolding answerAs
 as-rest zero t a b = absurd (a refl)
 as-rest (suc zero) t a b = absurd (b refl)
 as-rest (suc (suc k)) t a b = refl
+
+-- from 2^32 on it did not fail
+pub not-failed : (r : ℕ) → 4294967296 ≤ r → (n : ℕ) → answerIn r ≡ Inconsistent n → ⊥
+unfolding answerIn answerAs
+not-failed r h n e = go (r / 4294967296) (omega arith) e
+  where
+    go : (k : ℕ) → 1 ≤ k → answerAs k (r % 4294967296) ≡ Inconsistent n → ⊥
+    go zero l e = absurd (omega arith)
+    go (suc zero) l e = absurd (let z : _≡_ {A = ℕ} 0 1 = cc in omega arith)
+    go (suc (suc k)) l e = absurd (let z : _≡_ {A = ℕ} 0 1 = cc in omega arith)
+
+-- ---- trials left
+
+module _ (left n : ℕ) (r : Answer) where
+  pub few-consistent : n ≤ left → r ≡ Consistent n → trialsIn r ≤ left
+  unfolding trialsIn
+  few-consistent h e = rw e h
+
+  pub few-inconsistent : n ≤ left → r ≡ Inconsistent n → trialsIn r ≤ left
+  unfolding trialsIn
+  few-inconsistent h e = rw e h
+
+  pub few-spent : n ≤ left → r ≡ Spent n → trialsIn r ≤ left
+  unfolding trialsIn
+  few-spent h e = rw e h
+
+  -- and back
+  pub found-few : trialsIn r ≤ left → r ≡ Consistent n → n ≤ left
+  unfolding trialsIn
+  found-few h e = rw e at h
+
+  pub failed-few : trialsIn r ≤ left → r ≡ Inconsistent n → n ≤ left
+  unfolding trialsIn
+  failed-few h e = rw e at h
+
+  pub stopped-few : trialsIn r ≤ left → r ≡ Spent n → n ≤ left
+  unfolding trialsIn
+  stopped-few h e = rw e at h
+
+-- the answer with the trials made
+module _ (used left t : ℕ) (r : Answer) where
+  pub told-consistent : r ≡ Consistent t → told used left r ≡ Consistent (used + (left - t))
+  unfolding told
+  told-consistent e = rw e
+
+  pub told-inconsistent : r ≡ Inconsistent t → told used left r ≡ Inconsistent (used + (left - t))
+  unfolding told
+  told-inconsistent e = rw e
+
+  pub told-spent : r ≡ Spent t → told used left r ≡ Spent (used + (left - t))
+  unfolding told
+  told-spent e = rw e
+
+-- it is told of the same bytes
+pub told-afterwards : (used left : ℕ) (vals plan : List ℕ) (r : Answer) → afterwards vals plan (told used left r) ≡ afterwards vals plan r
+unfolding told afterwards
+told-afterwards used left vals plan (Answer.Consistent t) = refl
+told-afterwards used left vals plan (Answer.Inconsistent t) = refl
+told-afterwards used left vals plan (Answer.Spent t) = refl
+
+-- what becomes of the bytes
+module _ (vals plan : List ℕ) (t : ℕ) (r : Answer) where
+  pub after-consistent : r ≡ Consistent t → afterwards vals plan r ≡ filledFrom vals plan 0
+  unfolding afterwards
+  after-consistent e = rw e
+
+  pub after-inconsistent : r ≡ Inconsistent t → afterwards vals plan r ≡ vals
+  unfolding afterwards
+  after-inconsistent e = rw e
+
+  pub after-spent : r ≡ Spent t → afterwards vals plan r ≡ vals
+  unfolding afterwards
+  after-spent e = rw e

@@ -5,6 +5,7 @@ pub mod Endings
 pub mod Filling
 pub mod FirstSets
 pub mod Marks
+pub mod Noted
 pub mod PairTurns
 pub mod Pairs
 pub mod Parts

@@ -99,29 +99,29 @@ module _ (plan : List ℕ) (v first second : ℕ) where
   Covered = (c : ℕ) → c < 128 → inPlan plan v c ≡ true → inPair first second c ≡ true
 
   -- the second word of the row
-  high : (c : ℕ) → 64 ≤ c → c < 128 → inPlan plan v c ≡ bit (getD plan (v * 3 + 2) 0) (c - 64)
+  high : (c : ℕ) → 64 ≤ c → c < 128 → inPlan plan v c ≡ bit (getD plan (v * 4 + 3) 0) (c - 64)
   unfolding inPlan
-  high c l h = in-high plan (v * 3 + 1) (v * 3 + 2) c (omega arith) l h
+  high c l h = in-high plan (v * 4 + 2) (v * 4 + 3) c (omega arith) l h
 
   -- if neither word of the row has a bit that the set has not
-  pub covered-all : bitAnd (getD plan (v * 3 + 1) 0) first ≡ getD plan (v * 3 + 1) 0 → bitAnd (getD plan (v * 3 + 2) 0) second ≡ getD plan (v * 3 + 2) 0 → Covered
+  pub covered-all : bitAnd (getD plan (v * 4 + 2) 0) first ≡ getD plan (v * 4 + 2) 0 → bitAnd (getD plan (v * 4 + 3) 0) second ≡ getD plan (v * 4 + 3) 0 → Covered
   unfolding inPlan
   covered-all e f c h i = elim (decLt c 64) [
-    | yes l ↦ pair-first first second c l ∙ within-and (getD plan (v * 3 + 1) 0) first c e (sym (in-low plan (v * 3 + 1) c l) ∙ i)
-    | no l ↦ pair-second first second c (omega arith) h ∙ within-and (getD plan (v * 3 + 2) 0) second (c - 64) f (sym (high c (omega arith) h) ∙ i)
+    | yes l ↦ pair-first first second c l ∙ within-and (getD plan (v * 4 + 2) 0) first c e (sym (in-low plan (v * 4 + 2) c l) ∙ i)
+    | no l ↦ pair-second first second c (omega arith) h ∙ within-and (getD plan (v * 4 + 3) 0) second (c - 64) f (sym (high c (omega arith) h) ∙ i)
   ]
 
   -- and only then
-  pub covered-first : Covered → getD plan (v * 3 + 1) 0 < 2 ^ 64 → bitAnd (getD plan (v * 3 + 1) 0) first ≡ getD plan (v * 3 + 1) 0
+  pub covered-first : Covered → getD plan (v * 4 + 2) 0 < 2 ^ 64 → bitAnd (getD plan (v * 4 + 2) 0) first ≡ getD plan (v * 4 + 2) 0
   unfolding inPlan
   covered-first f b =
-      and-within 64 (getD plan (v * 3 + 1) 0) first b
-      (λ k l i. sym (pair-first first second k l) ∙ f k (omega arith) (in-low plan (v * 3 + 1) k l ∙ i))
+      and-within 64 (getD plan (v * 4 + 2) 0) first b
+      (λ k l i. sym (pair-first first second k l) ∙ f k (omega arith) (in-low plan (v * 4 + 2) k l ∙ i))
 
-  pub covered-second : Covered → getD plan (v * 3 + 2) 0 < 2 ^ 64 → bitAnd (getD plan (v * 3 + 2) 0) second ≡ getD plan (v * 3 + 2) 0
+  pub covered-second : Covered → getD plan (v * 4 + 3) 0 < 2 ^ 64 → bitAnd (getD plan (v * 4 + 3) 0) second ≡ getD plan (v * 4 + 3) 0
   unfolding inPlan
   covered-second f b =
-      and-within 64 (getD plan (v * 3 + 2) 0) second b
+      and-within 64 (getD plan (v * 4 + 3) 0) second b
       (λ k l i. let e : k + 64 - 64 ≡ k = omega arith in
       rw e at (sym (pair-second first second (k + 64) (omega arith) (omega arith)))
       ∙ f (k + 64) (omega arith) (high (k + 64) (omega arith) (omega arith) ∙ rw e i))
@@ -149,13 +149,13 @@ pair-or a b table row c h = pair-join a b (getD table (row * 8) 0) (getD table (
 
 -- a row of the plan that has the first two words of a row of a table, without what the set has
 pub plan-less : (a b : ℕ) (plan table : List ℕ) (v c : ℕ) → c < 128
-    → getD plan (v * 3 + 1) 0 ≡ bitXor (getD table (v * 8) 0) (bitAnd (getD table (v * 8) 0) a)
-    → getD plan (v * 3 + 2) 0 ≡ bitXor (getD table (v * 8 + 1) 0) (bitAnd (getD table (v * 8 + 1) 0) b)
+    → getD plan (v * 4 + 2) 0 ≡ bitXor (getD table (v * 8) 0) (bitAnd (getD table (v * 8) 0) a)
+    → getD plan (v * 4 + 3) 0 ≡ bitXor (getD table (v * 8 + 1) 0) (bitAnd (getD table (v * 8 + 1) 0) b)
     → inPlan plan v c ≡ (inSet table v c && not (inPair a b c))
 unfolding inPair inSet inPlan
 plan-less a b plan table v c h e f = elim (decLt c 64) [
-  | yes l ↦ let d : c / 64 ≡ 0 = omega arith in let z : v * 8 + 0 ≡ v * 8 = omega arith in let y : v * 3 + 1 + 0 ≡ v * 3 + 1 = omega arith in rw (d, z, y, e) (bit-less (getD table (v * 8) 0) a (c % 64))
-  | no l ↦ let d : c / 64 ≡ 1 = omega arith in let y : v * 3 + 1 + 1 ≡ v * 3 + 2 = omega arith in rw (d, y, f) (bit-less (getD table (v * 8 + 1) 0) b (c % 64))
+  | yes l ↦ let d : c / 64 ≡ 0 = omega arith in let z : v * 8 + 0 ≡ v * 8 = omega arith in let y : v * 4 + 2 + 0 ≡ v * 4 + 2 = omega arith in rw (d, z, y, e) (bit-less (getD table (v * 8) 0) a (c % 64))
+  | no l ↦ let d : c / 64 ≡ 1 = omega arith in let y : v * 4 + 2 + 1 ≡ v * 4 + 3 = omega arith in rw (d, y, f) (bit-less (getD table (v * 8 + 1) 0) b (c % 64))
 ]
 
 -- so what is covered by such a set is covered by the set or the row

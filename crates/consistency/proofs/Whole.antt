@@ -16,7 +16,7 @@ use Rattle.consistency.specs.declared.Answer.{Answer}
 use Rattle.consistency.specs.declared.Answer.the-variants.{Inconsistent}
 use Rattle.consistency.specs.Answers.{given, testOver, Ended}
 use Rattle.consistency.specs.Sets.{inSet, inPair}
-use Rattle.consistency.specs.Given.{Tables, Given, Lent, Starts, Bytes, Searches, inPlan, Planned, PlanRoom}
+use Rattle.consistency.specs.Given.{Tables, Given, Lent, Starts, Bytes, Searches, inPlan, Planned, PlanFor, Searchable}
 use Rattle.consistency.proofs.Endings.{as-inconsistent, moved}
 use Rattle.consistency.proofs.FirstSets.{from-end}
 use Rattle.consistency.proofs.Pairs.{pair-past, pair-join}
@@ -71,7 +71,7 @@ module _ (sizes counts lits sat uses vals : List ℕ) (g : Given sizes counts li
   -- ---- on sets of two words
 
   -- a clause that is satisfied or left open is not false
-  pub settled-clear : (plan : List ℕ) (first held1 held2 open1 open2 : ℕ) → Planned vals sat uses plan first (inPair held1 held2) (inPair open1 open2) 0
+  pub settled-clear : (plan : List ℕ) (first held1 held2 open1 open2 : ℕ) → Planned sizes vals sat uses plan first (inPair held1 held2) (inPair open1 open2) 0
       → (c : ℕ) → inPair (bitOr held1 open1) (bitOr held2 open2) c ≡ true → clauseFalse (map given vals) (nth (clauses counts lits) c) ≡ false
   settled-clear plan first held1 held2 open1 open2 p c e = elim (decLt c 128) [
     | yes l ↦
@@ -83,16 +83,18 @@ module _ (sizes counts lits sat uses vals : List ℕ) (g : Given sizes counts li
     | no l ↦ absurd (true≢false (sym e ∙ pair-past (bitOr held1 open1) (bitOr held2 open2) c (omega arith)))
   ]
 
-  module _ (few : length counts ≤ 128) (plan : List ℕ) (first : ℕ) (inHeld : ℕ → Bool) (open1 open2 : ℕ) (p : Planned vals sat uses plan first inHeld (inPair open1 open2) 0) where
-    -- the search has its room at the first unassigned variable
-    pub room-planned : 144 ≤ length plan → PlanRoom sizes sat plan vals first
-    room-planned long = record {
+  module _ (few : length counts ≤ 128) (plan : List ℕ) (first : ℕ) (inHeld : ℕ → Bool) (open1 open2 : ℕ) (p : Planned sizes vals sat uses plan first inHeld (inPair open1 open2) 0) where
+    -- the plan was made for what the test is given, and the search stands at the first unassigned variable
+    pub plan-first : PlanFor sizes vals plan first
+    plan-first = record {
       bytes = record { upto = omega (arith, p .next .upto, g .same); few = g .few; small = g .small; same = g .same };
-      sat-long = g .ready .sat-long;
-      plan-long = long;
       free = λ l. p .next .free (omega (arith, g .same));
-      nexts = record { at = λ u a. p .nexts .at u (omega arith) };
+      rows = record { size = λ u a. p .rows .size u (omega arith); next = λ u a. p .rows .next u (omega arith) };
+      ends = p .ends;
     }
+
+    pub searchable-first : Searchable plan first
+    searchable-first = record { sizes = sizes; vals = vals; plans = plan-first; long = p .long }
 
     -- and what it says there decides
     pub planned-searched : (limit used : ℕ) → anyFalse (map given vals) (clauses counts lits) ≡ false → (after : List ℕ) (r : Answer)

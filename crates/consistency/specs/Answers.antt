@@ -2,10 +2,10 @@
 use mathlib.Core.Path.{_≡_}
 use mathlib.Core.Bool.{Bool, true, false, not}
 use mathlib.Core.Option.{Option, none, some}
-use mathlib.Core.List.{List}
-use Prim.Native.Nat.{ℕ, zero, suc, _/_, _%_}
+use mathlib.Core.List.{List, [], _∷_}
+use Prim.Native.Nat.{ℕ, zero, suc, _+_, _-_, _/_, _%_}
 use lib.Dec.{eqb}
-use lib.ListN.{length}
+use lib.ListN.{length, getD}
 use Rattle.model.specs.Sheet.{Literal}
 use Rattle.model.specs.Assignment.{Assignment}
 use Rattle.model.specs.Consistency.{Tested, consistent, inconsistent, spent, holdsAt, anyFalse, explore}
@@ -56,3 +56,28 @@ answerAs (suc (suc k)) t = Spent t
 -- the trials in the lower half of the word, and how it ended in the upper
 unfoldable pub answerIn : ℕ → Answer
 answerIn r = answerAs (r / 4294967296) (r % 4294967296)
+
+-- ---- a search that counts the trials left, and notes the values found in its plan
+
+-- the answer with the trials made in place of those left, of `left` after `used`
+unfoldable pub told : ℕ → ℕ → Answer → Answer
+told used left (Answer.Consistent t) = Consistent (used + (left - t))
+told used left (Answer.Inconsistent t) = Inconsistent (used + (left - t))
+told used left (Answer.Spent t) = Spent (used + (left - t))
+
+-- no more are left than there were
+unfoldable pub trialsIn : Answer → ℕ
+trialsIn (Answer.Consistent t) = t
+trialsIn (Answer.Inconsistent t) = t
+trialsIn (Answer.Spent t) = t
+
+-- the bytes, with the word at the plan's place for each unassigned one, four words on from one to the next
+unfoldable pub filledFrom : List ℕ → List ℕ → ℕ → List ℕ
+filledFrom [] plan place = []
+filledFrom (b ∷ vals) plan place = elim (eqb b 16) [ true ↦ getD plan place 0 % 256 | false ↦ b ] ∷ filledFrom vals plan (place + 4)
+
+-- what the search makes of the bytes: values were found, or not
+unfoldable pub afterwards : List ℕ → List ℕ → Answer → List ℕ
+afterwards vals plan (Answer.Consistent t) = filledFrom vals plan 0
+afterwards vals plan (Answer.Inconsistent t) = vals
+afterwards vals plan (Answer.Spent t) = vals

@@ -11,8 +11,8 @@ use Rattle.model.specs.Consistency.{anyFalse, explore}
 use Rattle.theory.specs.Tables.{clauses, total}
 use Rattle.theory.specs.Search.{mentions, satisfiedAt, satisfied, satisfiedFrom, waits, due}
 use Rattle.theory.specs.Nodes.{Filled}
-use Rattle.consistency.specs.Answers.{given, Ended}
-use Rattle.consistency.specs.Sets.{inWords, SetIs, SetOf}
+use Rattle.consistency.specs.Answers.{given, Ended, told, afterwards}
+use Rattle.consistency.specs.Sets.{inWords, inSet, SetIs, SetOf}
 use Rattle.consistency.specs.declared.Answer.{Answer}
 use Rattle.consistency.specs.declared.Answer.the-variants.{Inconsistent}
 
@@ -113,28 +113,45 @@ Searches m sizes inSat inDue vals inHeld v used limit after r =
 
 -- ---- of at most 128 clauses, whose sets are two words
 
--- whether the clause c is due at the variable v: a row of the plan is the next unassigned variable and the two words of the set
-unfoldable pub inPlan : List ℕ → ℕ → ℕ → Bool
-inPlan plan v c = inWords plan (v * 3 + 1) c
+-- A plan has four words for each unassigned variable: its size, the next unassigned variable, and the set of the clauses that are due at it. Behind 48 such rows is the number of variables.
 
--- each unassigned variable from v on has the next one in its row
-pub record Nexts (plan vals : List ℕ) (v : ℕ) : Type 0 where
-  pub at : (u : ℕ) → v ≤ u → u < length vals → getD vals u 0 ≡ 16 → NextFree vals (u + 1) (getD plan (u * 3) 0)
+-- whether the clause c is due at the variable v
+unfoldable pub inPlan : List ℕ → ℕ → ℕ → Bool
+inPlan plan v c = inWords plan (v * 4 + 2) c
+
+-- each unassigned variable from v on has its size and the next one in its row
+pub record Rows (sizes vals plan : List ℕ) (v : ℕ) : Type 0 where
+  pub size : (u : ℕ) → v ≤ u → u < length vals → getD vals u 0 ≡ 16 → getD plan (u * 4) 0 ≡ getD sizes u 0
+  pub next : (u : ℕ) → v ≤ u → u < length vals → getD vals u 0 ≡ 16 → NextFree vals (u + 1) (getD plan (u * 4 + 1) 0)
 
 -- what is made from v on: the plan, the clauses that are satisfied and those that are left open, and the first unassigned variable
-pub record Planned (vals sat uses plan : List ℕ) (first : ℕ) (inHeld inOpen : ℕ → Bool) (v : ℕ) : Type 0 where
+pub record Planned (sizes vals sat uses plan : List ℕ) (first : ℕ) (inHeld inOpen : ℕ → Bool) (v : ℕ) : Type 0 where
   pub next : NextFree vals v first
-  pub nexts : Nexts plan vals v
+  pub rows : Rows sizes vals plan v
+  pub ends : getD plan 192 0 ≡ length vals
+  pub long : 193 ≤ length plan
   pub sets : (cs : List (List Literal)) → Clauses cs vals sat uses → SetsFrom 128 cs vals (inPlan plan) inHeld inOpen v
 
--- the room that its search has at the unassigned variable v
-pub record PlanRoom (sizes sat plan vals : List ℕ) (v : ℕ) : Type 0 where
+-- the plan was made for these sizes and bytes, and the search stands at the unassigned variable v
+pub record PlanFor (sizes vals plan : List ℕ) (v : ℕ) : Type 0 where
   pub bytes : Bytes sizes vals v
-  pub sat-long : 6144 ≤ length sat
-  pub plan-long : 144 ≤ length plan
   pub free : v < length sizes → getD vals v 0 ≡ 16
-  pub nexts : Nexts plan vals v
+  pub rows : Rows sizes vals plan v
+  pub ends : getD plan 192 0 ≡ length vals
 
--- where no value fits, the bytes are as they came
-abbrev pub Restored : (vals after : List ℕ) → Answer → Type 0
-Restored vals after r = (t : ℕ) → r ≡ Inconsistent t → after ≡ vals
+-- it was made for some
+pub record Searchable (plan : List ℕ) (v : ℕ) : Type 0 where
+  pub sizes : List ℕ
+  pub vals : List ℕ
+  pub plans : PlanFor sizes vals plan v
+  pub long : 193 ≤ length plan
+
+-- for any that it was made for, the search with so many trials left ends as the model's
+abbrev pub Finds : (sat plan : List ℕ) (inHeld : ℕ → Bool) (v left : ℕ) (after : List ℕ) → Answer → Type 0
+Finds sat plan inHeld v left after r =
+    (sizes vals : List ℕ) (used limit : ℕ) → PlanFor sizes vals plan v → left ≡ limit - used
+    → Searches 128 sizes (inSet sat) (inPlan plan) vals inHeld v used limit (afterwards vals after r) (told used left r)
+
+-- where no value fits, the plan is as it came
+abbrev pub Restored : (plan after : List ℕ) → Answer → Type 0
+Restored plan after r = (t : ℕ) → r ≡ Inconsistent t → after ≡ plan

@@ -30,7 +30,7 @@ fn test_pairs(
     sizes: &[u8],
     counts: &[u8],
     lits: &[u8],
-    sat: &[u64],
+    sat: &[u64; 6144],
     uses: &[u64],
     vals: &mut [u8],
     used: u32,
@@ -39,22 +39,13 @@ fn test_pairs(
     requires { ⌜ Given (now sizes) (now counts) (now lits) (now sat) (now uses) (now vals) × (length (now counts) ≤ 128) ⌝ }
     ensures { λ r. ⌜ Ended (testOver (clauses (now (counts .entry)) (now (lits .entry))) (now (sizes .entry)) limit used (map given (now (vals .entry)))) (now (vals .entry)) (now (vals .exit)) r ⌝ }
 {
-    let mut plan = [0u64; 144];
-    let s = pair_search::start(vals, sat, uses, &mut plan);
+    let mut plan = [0u64; 193];
+    let s = pair_search::start(sizes, vals, sat, uses, &mut plan);
     if any_false(counts, lits, vals, s.held1 | s.open1, s.held2 | s.open2) {
         return Answer::Inconsistent(used);
     }
-    pair_search::search(
-        sizes,
-        sat,
-        &plan,
-        vals,
-        s.held1,
-        s.held2,
-        s.next,
-        used,
-        limit,
-    )
+    let answer = pair_search::search(sat, &mut plan, s.held1, s.held2, s.next, used, limit);
+    pair_search::take_found(vals, &plan, answer)
 }
 
 // The test with sets of eight words.
@@ -62,7 +53,7 @@ fn test_rows(
     sizes: &[u8],
     counts: &[u8],
     lits: &[u8],
-    sat: &[u64],
+    sat: &[u64; 6144],
     uses: &[u64],
     vals: &mut [u8],
     used: u32,
@@ -84,7 +75,7 @@ pub fn test(
     sizes: &[u8],
     counts: &[u8],
     lits: &[u8],
-    sat: &[u64],
+    sat: &[u64; 6144],
     uses: &[u64],
     vals: &mut [u8],
     used: u32,

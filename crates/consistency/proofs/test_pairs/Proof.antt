@@ -1,36 +1,34 @@
 -- `test_pairs` meets its contract: the first question is decided by `any_false`, the rest by the search along the plan that `start` makes. Assumes nothing.
-use mathlib.Core.Path.{refl, sym, _∙_}
+use mathlib.Core.Path.{sym, _∙_}
 use native.Mathlib.Omega.{arith}
+use Rattle.consistency.proofs.Whole.{tables-vals, at-once, settled-clear, plan-first, searchable-first, planned-searched}
 use borrow.Author.Needs.{needs}
-use Rattle.consistency.proofs.Whole.{tables-vals, lent-first, at-once, settled-clear, room-planned, planned-searched}
 use Rattle.consistency.proofs.test_pairs.Statement.{statement}
 use Rattle.consistency.proofs.test_pairs.Tie as tie
 
-slice-aggregate-start : tie.Need-slice-aggregate-start
-slice-aggregate-start c = search needs
-
 start-requires : tie.Need-start-requires
-start-requires c κs = lent-first _ _ _ _ _ _ (c .before .before .before .before .before .before .before .before .pre .0) _
+start-requires c κs = search needs
 
 any-false-requires : tie.Need-any-false-requires
 any-false-requires c κs =
-    let g = c .before .before .before .before .before .before .before .before .before .before .before .before .before .pre in
-    (tables-vals _ _ _ _ _ _ (g .0), settled-clear _ _ _ _ _ _ (g .0) _ _ _ _ _ _ (c .before .before .before .before .start .ensures))
+    let g = c .before .before .before .before .before .before .before .before .before .before .before .pre in
+    (tables-vals _ _ _ _ _ _ (g .0), settled-clear _ _ _ _ _ _ (g .0) _ _ _ _ _ _ (c .before .before .before .start .ensures))
 
 same-length : tie.Need-same-length
 same-length c = search needs
 
 returns : tie.Need-returns
-returns c = at-once _ _ _ _ _ _ (c .before .before .before .before .before .before .before .before .before .before .before .before .before .before .before .pre .0) _ _ (sym (c .before .any-false .ensures) ∙ c .if1 .taken)
-
-slice-aggregate-search : tie.Need-slice-aggregate-search
-slice-aggregate-search c = search needs
+returns c = at-once _ _ _ _ _ _ (c .before .before .before .before .before .before .before .before .before .before .before .before .before .pre .0) _ _ (sym (c .before .any-false .ensures) ∙ c .if1 .taken)
 
 search-requires : tie.Need-search-requires
 search-requires c κs =
-    let g = c .before .before .before .before .before .before .before .before .before .before .before .before .before .before .before .before .before .pre in
-    let s = c .before .before .before .before .before .before .before .before .start in
-    room-planned _ _ _ _ _ _ (g .0) (g .1) _ _ _ _ _ (s .ensures) (omega (arith, s .kept .1 .1 .1 .0))
+    let g = c .before .before .before .before .before .before .before .before .before .before .before .before .before .before .pre in
+    searchable-first _ _ _ _ _ _ (g .0) (g .1) _ _ _ _ _ (c .before .before .before .before .before .before .start .ensures)
+
+take-found-requires : tie.Need-take-found-requires
+take-found-requires c κs =
+    let g = c .before .before .before .before .before .before .before .before .before .before .before .before .before .before .before .before .before .pre .0 in
+    omega (arith, g .few, g .same)
 
 same-length-2 : tie.Need-same-length-2
 same-length-2 c = search needs
@@ -38,19 +36,21 @@ same-length-2 c = search needs
 returns-2 : tie.Need-returns-2
 returns-2 c =
     let g = c .before .before .before .before .before .before .before .before .before .before .before .before .before .before .before .before .before .before .before .before .pre in
-    planned-searched _ _ _ _ _ _ (g .0) (g .1) _ _ _ _ _ (c .before .before .before .before .before .before .before .before .before .before .before .start .ensures) _ _
-    (sym (c .before .before .before .before .before .before .any-false .ensures) ∙ c .before .before .before .before .before .if1 .left) _ _ (c .before .before .search .ensures)
+    let p = c .before .before .before .before .before .before .before .before .before .before .before .before .start .ensures in
+    let f = c .before .before .take-found .ensures in
+    rw (f .1, f .0)
+    (planned-searched _ _ _ _ _ _ (g .0) (g .1) _ _ _ _ _ p _ _ (sym (c .before .before .before .before .before .before .before .before .any-false .ensures) ∙ c .before .before .before .before .before .before .before .if1 .left) _ _
+    (c .before .before .before .before .before .search .ensures _ _ (plan-first _ _ _ _ _ _ (g .0) (g .1) _ _ _ _ _ p)))
 
 pub test-pairs-spec : {M : Type 1} → statement M
 test-pairs-spec =
     tie.close
     (tie.spec
-    slice-aggregate-start
     start-requires
     any-false-requires
     same-length
     returns
-    slice-aggregate-search
     search-requires
+    take-found-requires
     same-length-2
     returns-2)

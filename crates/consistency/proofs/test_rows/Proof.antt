@@ -10,13 +10,13 @@ use Rattle.consistency.proofs.test_rows.Tie as tie
 
 any-false-requires : tie.Need-any-false-requires
 any-false-requires c κs =
-    (tables-vals _ _ _ _ _ _ (c .before .before .before .before .before .before .before .pre), λ k e. absurd (true≢false (sym e ∙ none-in-pair k)))
+    (tables-vals _ _ _ _ _ _ (c .before .before .before .before .before .before .pre), λ k e. absurd (true≢false (sym e ∙ none-in-pair k)))
 
 same-length : tie.Need-same-length
 same-length c = search needs
 
 returns : tie.Need-returns
-returns c = at-once _ _ _ _ _ _ (c .before .before .before .before .before .before .before .before .before .pre) _ _ (sym (c .before .any-false .ensures) ∙ c .if1 .taken)
+returns c = at-once _ _ _ _ _ _ (c .before .before .before .before .before .before .before .before .pre) _ _ (sym (c .before .any-false .ensures) ∙ c .if1 .taken)
 
 slice-aggregate-start : tie.Need-slice-aggregate-start
 slice-aggregate-start c = search needs
@@ -29,18 +29,18 @@ slice-aggregate-search c = search needs
 
 search-requires : tie.Need-search-requires
 search-requires c κs =
-    let g = c .before .before .before .before .before .before .before .before .before .before .before .before .before .before .before .pre in
-    record { bytes = bytes-first _ _ _ _ _ _ g; sat-long = g .ready .sat-long; last-long = omega (arith, c .before .before .before .start .kept .1 .1 .1 .0) }
+    let g = c .before .before .before .before .before .before .before .before .before .before .before .before .before .before .before .before .pre in
+    record { bytes = bytes-first _ _ _ _ _ _ g; sat-long = g .ready .sat-long; last-long = omega (arith, c .before .before .before .before .start .kept .1 .1 .1 .0) }
 
 same-length-2 : tie.Need-same-length-2
 same-length-2 c = c .before .before .search .kept .1 .1 .1 .0
 
 returns-2 : tie.Need-returns-2
 returns-2 c =
-    let s = c .before .before .before .before .before .before .before .before .before .before .before .before .before .before .before .before .before .before in
+    let s = c .before .before .before .before .before .before .before .before .before .before .before .before .before .before .before .before .before .before .before in
     searched _ _ _ _ _ _ (s .pre) _ _ 512 (s .pre .tables .most) (omega arith)
-    (sym (c .before .before .before .before .before .before .before .before .before .before .any-false .ensures) ∙ c .before .before .before .before .before .before .before .before .before .if1 .left)
-    _ _ _ _ (c .before .before .before .before .before .before .start .ensures) (c .before .before .search .ensures)
+    (sym (c .before .before .before .before .before .before .before .before .before .before .before .before .any-false .ensures) ∙ c .before .before .before .before .before .before .before .before .before .before .before .if1 .left)
+    _ _ _ _ (c .before .before .before .before .before .before .before .start .ensures) (c .before .before .search .ensures)
 
 pub test-rows-spec : {M : Type 1} → statement M
 test-rows-spec =

@@ -29,14 +29,11 @@ prepare-requires c κs =
 slice-aggregate-conflict-of : tie.Need-slice-aggregate-conflict-of
 slice-aggregate-conflict-of c = search needs
 
-slice-aggregate-conflict-of-2 : tie.Need-slice-aggregate-conflict-of-2
-slice-aggregate-conflict-of-2 c = search needs
-
 array-borrow-prefix-vals : tie.Need-array-borrow-prefix-vals
 array-borrow-prefix-vals c = search needs
 
-slice-aggregate-conflict-of-3 : tie.Need-slice-aggregate-conflict-of-3
-slice-aggregate-conflict-of-3 c = sym (length-take-le _ _ (c .before .before .before .before .before .before .before .before .before .before .before .before .before .pre .few))
+slice-aggregate-conflict-of-2 : tie.Need-slice-aggregate-conflict-of-2
+slice-aggregate-conflict-of-2 c = sym (length-take-le _ _ (c .before .before .before .before .before .before .before .before .before .before .before .before .before .pre .few))
 
 conflict-of-requires : tie.Need-conflict-of-requires
 conflict-of-requires c κs =
@@ -59,8 +56,7 @@ conflict-tables-spec =
     slice-aggregate-prepare-2
     prepare-requires
     slice-aggregate-conflict-of
-    slice-aggregate-conflict-of-2
     array-borrow-prefix-vals
-    slice-aggregate-conflict-of-3
+    slice-aggregate-conflict-of-2
     conflict-of-requires
     returns-2)

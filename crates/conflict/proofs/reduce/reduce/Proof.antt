@@ -25,7 +25,7 @@ loop-holds c = (omega arith, omega arith, λ p costs t a w valid. going-first w 
 without-requires : tie.Need-without-requires Inv-loop μ-loop
 without-requires c κs =
     let h = c .before .before in
-    (ready-again (h .before .before .before .before .before .before .before .pre) (h .loop .inv .1), omega arith)
+    (ready-again (h .before .before .before .before .before .before .pre) (h .loop .inv .1), omega arith)
 
 enum-known-t : tie.Need-enum-known-t Inv-loop μ-loop
 enum-known-t c = search needs

@@ -14,7 +14,7 @@ is-assigned-requires c κs = search needs
 
 returns : tie.Need-returns
 returns c p costs t a w valid =
-    let s = c .before .before .before .before .before .before .before .before in
+    let s = c .before .before .before .before .before .before .before in
     let e = member t a valid w (s .args .v) (s .pre .1) (c .before .is-assigned .ensures) in
     turn-free t a valid w (s .args .v) (s .pre .1) (s .args .limit) (s .args .used) (e ∙ not-true _ (c .if1 .taken))
 
@@ -39,7 +39,7 @@ same-length c = search needs
 returns-2 : tie.Need-returns-2
 returns-2 c p costs t a w valid =
     let k = c .before .before .before .before .before in
-    let s = k .before .before .before .before .before .before .before .before .before .before .before in
+    let s = k .before .before .before .before .before .before .before .before .before .before in
     let e = member t a valid w (s .args .v) (s .pre .1) (k .before .before .before .before .is-assigned .ensures) ∙ not-false _ (k .before .before .before .if1 .left) in
     let rest = k .before .before .remove .ensures a w (omega (arith, members t a valid, s .pre .1)) in
     let ended = k .tested .ensures p costs t (set a (s .args .v) none) rest (rest-valid t a valid w (s .args .v) (s .pre .1)) in
@@ -51,7 +51,7 @@ same-length-2 c = search needs
 returns-3 : tie.Need-returns-3
 returns-3 c p costs t a w valid =
     let k = c .before .before .before .before .before in
-    let s = k .before .before .before .before .before .before .before .before .before .before .before in
+    let s = k .before .before .before .before .before .before .before .before .before .before in
     let e = member t a valid w (s .args .v) (s .pre .1) (k .before .before .before .before .is-assigned .ensures) ∙ not-false _ (k .before .before .before .if1 .left) in
     let rest = k .before .before .remove .ensures a w (omega (arith, members t a valid, s .pre .1)) in
     let ended = k .tested .ensures p costs t (set a (s .args .v) none) rest (rest-valid t a valid w (s .args .v) (s .pre .1)) in
@@ -63,7 +63,7 @@ same-length-3 c = search needs
 returns-4 : tie.Need-returns-4
 returns-4 c p costs t a w valid =
     let k = c .before .before .before .before .before in
-    let s = k .before .before .before .before .before .before .before .before .before .before .before in
+    let s = k .before .before .before .before .before .before .before .before .before .before in
     let e = member t a valid w (s .args .v) (s .pre .1) (k .before .before .before .before .is-assigned .ensures) ∙ not-false _ (k .before .before .before .if1 .left) in
     let rest = k .before .before .remove .ensures a w (omega (arith, members t a valid, s .pre .1)) in
     let ended = k .tested .ensures p costs t (set a (s .args .v) none) rest (rest-valid t a valid w (s .args .v) (s .pre .1)) in

@@ -9,7 +9,7 @@ fill-requires c κs = search needs
 
 test-requires : tie.Need-test-requires
 test-requires c κs =
-    let s = c .before .before .before .before .before .before .before .before .before .before .before in
+    let s = c .before .before .before .before .before .before .before .before .before .before in
     ready-given (s .pre) (s .args .mask) (s .args .values) (c .before .before .before .fill .ensures)
 
 same-length : tie.Need-same-length
@@ -17,7 +17,7 @@ same-length c = search needs
 
 returns : tie.Need-returns
 returns c p costs t a w v =
-    let s = c .before .before .before .before .before .before .before .before .before .before .before .before .before .before in
+    let s = c .before .before .before .before .before .before .before .before .before .before .before .before .before in
     ready-ended (s .pre) (s .args .mask) (s .args .values) (c .before .before .before .before .before .before .fill .ensures) t a w v (s .args .limit) (s .args .used) _ _ (c .before .before .test .ensures)
 
 pub tested-spec : {M : Type 1} → statement M

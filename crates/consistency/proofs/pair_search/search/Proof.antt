@@ -1,7 +1,12 @@
--- `pair_search::search` meets its contract, which is that of `descend` on the answer itself. Assumes nothing.
+-- `pair_search::search` meets its contract: `descend` with the trials left, told with the trials made. Assumes nothing.
+use native.Mathlib.Omega.{arith}
+use Rattle.consistency.proofs.Endings.{told-afterwards}
 use borrow.Author.Needs.{needs}
 use Rattle.consistency.proofs.pair_search.search.Statement.{statement}
 use Rattle.consistency.proofs.pair_search.search.Tie as tie
+
+trials-left-requires : tie.Need-trials-left-requires
+trials-left-requires c κs = search needs
 
 descend-requires : tie.Need-descend-requires
 descend-requires c κs = search needs
@@ -9,11 +14,22 @@ descend-requires c κs = search needs
 unpacked-requires : tie.Need-unpacked-requires
 unpacked-requires c κs = search needs
 
-same-length : tie.Need-same-length
-same-length c = search needs
+with-trials-made-requires : tie.Need-with-trials-made-requires
+with-trials-made-requires c κs =
+    let s = c .before .before .before .before in
+    (rw (c .unpacked .ensures) (c .before .descend .ensures .2), omega (arith, c .before .before .before .trials-left .ensures, s .fits .used .fits, s .fits .limit .fits))
 
 returns : tie.Need-returns
-returns c = rw (c .unpacked .ensures) (c .before .before .before .descend .ensures .0)
+returns c sizes vals p =
+    rw (c .with-trials-made .ensures, c .before .unpacked .ensures, told-afterwards _ _ vals _ _)
+    (c .before .before .descend .ensures .0 sizes vals _ _ p (c .before .before .before .before .trials-left .ensures))
 
 pub search-spec : {M : Type 1} → statement M
-search-spec = tie.close (tie.spec descend-requires unpacked-requires same-length returns)
+search-spec =
+    tie.close
+    (tie.spec
+    trials-left-requires
+    descend-requires
+    unpacked-requires
+    with-trials-made-requires
+    returns)

@@ -1,9 +1,8 @@
 -- `pair_search::taken_in` meets its contract, by one law for an unassigned variable and one for an assigned one. Assumes nothing.
 use mathlib.Core.Path.{refl}
 use native.Mathlib.Omega.{arith}
-use lib.ListN.{length-set}
-use Rattle.consistency.proofs.Plans.{planned-free, planned-set}
 use borrow.Author.Needs.{needs}
+use Rattle.consistency.proofs.Plans.{planned-free, planned-set}
 use Rattle.consistency.proofs.pair_search.taken_in.Statement.{statement}
 use Rattle.consistency.proofs.pair_search.taken_in.Tie as tie
 
@@ -31,14 +30,20 @@ mul-second-2 c = search needs
 shared-slice-read-second : tie.Need-shared-slice-read-second
 shared-slice-read-second c = search needs
 
+shared-slice-read-plan : tie.Need-shared-slice-read-plan
+shared-slice-read-plan c = search needs
+
+cast-plan : tie.Need-cast-plan
+cast-plan c = omega (arith, c .shared-slice-known7 .given (c .before .before .before .before .before .before .before .before .args .v))
+
 mul-plan : tie.Need-mul-plan
 mul-plan c = search needs
 
 mul-plan-2 : tie.Need-mul-plan-2
 mul-plan-2 c = search needs
 
-slice-write-plan : tie.Need-slice-write-plan
-slice-write-plan c = search needs
+element-write-plan : tie.Need-element-write-plan
+element-write-plan c = search needs
 
 mul-plan-3 : tie.Need-mul-plan-3
 mul-plan-3 c = search needs
@@ -49,8 +54,8 @@ add-plan c = search needs
 mul-plan-4 : tie.Need-mul-plan-4
 mul-plan-4 c = search needs
 
-slice-write-plan-2 : tie.Need-slice-write-plan-2
-slice-write-plan-2 c = simp length-set (omega arith)
+element-write-plan-2 : tie.Need-element-write-plan-2
+element-write-plan-2 c = search needs
 
 mul-plan-5 : tie.Need-mul-plan-5
 mul-plan-5 c = search needs
@@ -61,16 +66,25 @@ add-plan-2 c = search needs
 mul-plan-6 : tie.Need-mul-plan-6
 mul-plan-6 c = search needs
 
-slice-write-plan-3 : tie.Need-slice-write-plan-3
-slice-write-plan-3 c = simp length-set (omega arith)
+element-write-plan-3 : tie.Need-element-write-plan-3
+element-write-plan-3 c = search needs
 
-same-length : tie.Need-same-length
-same-length c = search needs
+mul-plan-7 : tie.Need-mul-plan-7
+mul-plan-7 c = search needs
+
+add-plan-3 : tie.Need-add-plan-3
+add-plan-3 c = search needs
+
+mul-plan-8 : tie.Need-mul-plan-8
+mul-plan-8 c = search needs
+
+element-write-plan-4 : tie.Need-element-write-plan-4
+element-write-plan-4 c = search needs
 
 returns : tie.Need-returns
 returns c p =
     let s = c .before .before .before .before .before .before .before .before .before .before .before .before in
-    planned-free _ _ _ _ _ _ _ _ _ (s .args .v) (s .pre .0) (s .pre .1) p _ _ refl refl (c .before .before .before .before .before .before .if1 .taken)
+    planned-free _ _ _ _ _ _ _ _ _ _ (s .args .v) (s .pre .0) (s .pre .1) p _ _ _ refl refl refl (c .before .before .before .before .before .before .before .if1 .taken)
 
 mul-row : tie.Need-mul-row
 mul-row c = search needs
@@ -80,49 +94,48 @@ wide-requires c κs = search needs
 
 add-row : tie.Need-add-row
 add-row c =
-    let s = c .before .before .before .before .before .before .before in
+    let s = c .before .before .before .before .before .before in
     omega (arith, s .pre .0 .bytes (s .args .v))
 
-mul-t24 : tie.Need-mul-t24
-mul-t24 c =
-    let s = c .before .before .before .before .before .before .before in
+mul-t32 : tie.Need-mul-t32
+mul-t32 c =
+    let s = c .before .before .before .before .before .before in
     omega (arith, s .pre .0 .bytes (s .args .v))
 
-mul-t25 : tie.Need-mul-t25
-mul-t25 c =
-    let s = c .before .before .before .before .before .before .before in
+mul-t33 : tie.Need-mul-t33
+mul-t33 c =
+    let s = c .before .before .before .before .before .before in
     omega (arith, s .pre .0 .bytes (s .args .v))
 
-shared-slice-read-t27 : tie.Need-shared-slice-read-t27
-shared-slice-read-t27 c =
+element-copy-out-t36 : tie.Need-element-copy-out-t36
+element-copy-out-t36 c =
+    let s = c .before .before .before .before .before .before in
+    omega (arith, s .pre .0 .bytes (s .args .v))
+
+mul-t38 : tie.Need-mul-t38
+mul-t38 c =
     let s = c .before .before .before .before .before .before .before .before in
     omega (arith, s .pre .0 .bytes (s .args .v))
 
-mul-t29 : tie.Need-mul-t29
-mul-t29 c =
-    let s = c .before .before .before .before .before .before .before .before .before in
+add-t39 : tie.Need-add-t39
+add-t39 c =
+    let s = c .before .before .before .before .before .before .before .before in
     omega (arith, s .pre .0 .bytes (s .args .v))
 
-add-t30 : tie.Need-add-t30
-add-t30 c =
-    let s = c .before .before .before .before .before .before .before .before .before in
+mul-t40 : tie.Need-mul-t40
+mul-t40 c =
+    let s = c .before .before .before .before .before .before .before .before in
     omega (arith, s .pre .0 .bytes (s .args .v))
 
-mul-t31 : tie.Need-mul-t31
-mul-t31 c =
-    let s = c .before .before .before .before .before .before .before .before .before in
-    omega (arith, s .pre .0 .bytes (s .args .v))
-
-shared-slice-read-t33 : tie.Need-shared-slice-read-t33
-shared-slice-read-t33 c =
-    let s = c .before .before .before .before .before .before .before .before .before .before in
+element-copy-out-t43 : tie.Need-element-copy-out-t43
+element-copy-out-t43 c =
+    let s = c .before .before .before .before .before .before .before .before in
     omega (arith, s .pre .0 .bytes (s .args .v))
 
 returns-2 : tie.Need-returns-2
 returns-2 c p =
-    let s = c .before .before .before .before .before .before .before .before .before .before .before in
-    rw (c .before .before .before .before .wide .ensures)
-    (planned-set _ _ _ _ _ _ _ _ _ (s .args .v) (s .pre .0) (s .pre .1) p (c .before .before .before .before .before .if1 .left))
+    let s = c .before .before .before .before .before .before .before .before .before .before in
+    rw (c .before .before .before .before .wide .ensures) (planned-set _ _ _ _ _ _ _ _ _ _ (s .args .v) (s .pre .0) (s .pre .1) p (c .before .before .before .before .before .if1 .left))
 
 pub taken-in-spec : {M : Type 1} → statement M
 taken-in-spec =
@@ -136,27 +149,32 @@ taken-in-spec =
     add-second
     mul-second-2
     shared-slice-read-second
+    shared-slice-read-plan
+    cast-plan
     mul-plan
     mul-plan-2
-    slice-write-plan
+    element-write-plan
     mul-plan-3
     add-plan
     mul-plan-4
-    slice-write-plan-2
+    element-write-plan-2
     mul-plan-5
     add-plan-2
     mul-plan-6
-    slice-write-plan-3
-    same-length
+    element-write-plan-3
+    mul-plan-7
+    add-plan-3
+    mul-plan-8
+    element-write-plan-4
     returns
     mul-row
     wide-requires
     add-row
-    mul-t24
-    mul-t25
-    shared-slice-read-t27
-    mul-t29
-    add-t30
-    mul-t31
-    shared-slice-read-t33
+    mul-t32
+    mul-t33
+    element-copy-out-t36
+    mul-t38
+    add-t39
+    mul-t40
+    element-copy-out-t43
     returns-2)

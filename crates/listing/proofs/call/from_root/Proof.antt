@@ -12,21 +12,21 @@ use Rattle.listing.proofs.call.from_root.Statement.{statement}
 use Rattle.listing.proofs.call.from_root.Tie as tie
 
 root-requires : tie.Need-root-requires
-root-requires c κs = let b = c .before .before .before .before .before .before .before .before .before .before .before .pre .0 .tables .tabled in (tabled-few b, b .cost-room)
+root-requires c κs = let b = c .before .before .before .before .before .before .before .before .before .before .pre .0 .tables .tabled in (tabled-few b, b .cost-room)
 
 entry-of-requires : tie.Need-entry-of-requires
 entry-of-requires c κs = search needs
 
 push-requires : tie.Need-push-requires
-push-requires c κs = omega (arith, c .before .before .before .before .before .before .before .before .before .before .before .before .before .before .pre .0 .room .queue-room)
+push-requires c κs = omega (arith, c .before .before .before .before .before .before .before .before .before .before .before .before .before .pre .0 .room .queue-room)
 
 run-requires : tie.Need-run-requires
 run-requires c κs =
-    let t = c .before .before .before .before .before .before .before .before .before .before .before .before .before .before .before .before .before .before .before .before .before .before .pre .0 in
+    let t = c .before .before .before .before .before .before .before .before .before .before .before .before .before .before .before .before .before .before .before .before .before .pre .0 in
     let o = orderOf (t .plant) in
     let node = c .before .before .before .before .before .before .before .before .before .before .root .ensures (t .plant) _ _ _ (t .tables .tabled) (t .tables .preferred-is) in
     let entry = c .before .before .before .before .before .before .before .before .before .entry-of .ensures o (unassigned (decisionSizes (t .plant))) (node .mask-is) (node .code-is) (node .cost-is) in
-    start-steps t (c .before .before .before .before .before .before .before .before .before .before .before .before .before .before .before .before .before .before .before .before .before .before .pre .2) _ (c .before .before .before .before .before .before .before .push .kept .0) (c .before .before .before .before .before .before .before .push .ensures o [] (unassigned (decisionSizes (t .plant))) (holds-nothing o _) entry)
+    start-steps t (c .before .before .before .before .before .before .before .before .before .before .before .before .before .before .before .before .before .before .before .before .before .pre .2) _ (c .before .before .before .before .before .before .before .push .kept .0) (c .before .before .before .before .before .before .before .push .ensures o [] (unassigned (decisionSizes (t .plant))) (holds-nothing o _) entry)
 
 same-length : tie.Need-same-length
 same-length c = search needs

@@ -30,14 +30,11 @@ preferred-requires c κs =
 slice-aggregate-listing : tie.Need-slice-aggregate-listing
 slice-aggregate-listing c = search needs
 
-slice-aggregate-listing-2 : tie.Need-slice-aggregate-listing-2
-slice-aggregate-listing-2 c = search needs
-
 array-borrow-prefix-vals : tie.Need-array-borrow-prefix-vals
 array-borrow-prefix-vals c = tabled-limits (c .before .before .before .before .before .before .before .before .before .before .before .before .before .before .before .before .pre .0 .1) .few
 
-slice-aggregate-listing-3 : tie.Need-slice-aggregate-listing-3
-slice-aggregate-listing-3 c = sym (length-take-le _ _ (tabled-limits (c .before .before .before .before .before .before .before .before .before .before .before .before .before .before .before .before .before .pre .0 .1) .few))
+slice-aggregate-listing-2 : tie.Need-slice-aggregate-listing-2
+slice-aggregate-listing-2 c = sym (length-take-le _ _ (tabled-limits (c .before .before .before .before .before .before .before .before .before .before .before .before .before .before .before .before .before .pre .0 .1) .few))
 
 listing-requires : tie.Need-listing-requires
 listing-requires c κs = 
@@ -79,9 +76,8 @@ list-tables-spec =
     prepare-requires
     preferred-requires
     slice-aggregate-listing
-    slice-aggregate-listing-2
     array-borrow-prefix-vals
-    slice-aggregate-listing-3
+    slice-aggregate-listing-2
     listing-requires
     finish-requires
     same-length

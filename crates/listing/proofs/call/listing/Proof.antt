@@ -6,7 +6,7 @@ use Rattle.listing.proofs.call.listing.Statement.{statement}
 use Rattle.listing.proofs.call.listing.Tie as tie
 
 check-all-requires : tie.Need-check-all-requires
-check-all-requires c κs = let t = c .before .before .before .before .before .before .before .before .before .before .before .before .before .pre in (tabled-ready (t .tables .tabled) (t .tables .prepared) (t .tables .bytes), t .room .store-room)
+check-all-requires c κs = let t = c .before .before .before .before .before .before .before .before .before .before .before .before .pre in (tabled-ready (t .tables .tabled) (t .tables .prepared) (t .tables .bytes), t .room .store-room)
 
 enum-known-m : tie.Need-enum-known-m
 enum-known-m c = search needs
@@ -16,7 +16,7 @@ enum-known-m-2 c = search needs
 
 from-root-requires : tie.Need-from-root-requires
 from-root-requires c κs =
-    let t = c .before .before .before .before .before .before .before .before .before .before .before .before .before .before .before .before .before .before .before .before .before .before .before .before .before .before .pre in
+    let t = c .before .before .before .before .before .before .before .before .before .before .before .before .before .before .before .before .before .before .before .before .before .before .before .before .before .pre in
     let o = rw (c .before .before .before .before .before .before .m2 .given .1) at (c .before .before .before .before .before .before .before .before .before .before .before .before .check-all .ensures (t .plant) _ (t .tables .tabled)) in
     (lists-again t (c .before .before .before .before .before .before .before .before .before .before .before .before .check-all .kept .1 .1 .1 .1 .1 .1 .0), o .0, checked-survivors t _ o)
 

@@ -21,7 +21,7 @@ same-length c = search needs
 
 returns : tie.Need-returns
 returns c = (omega arith, λ p costs t held survivors h l k.
-        let s = c .before .before .before .before .before .before .before .before .before .before .before in
+        let s = c .before .before .before .before .before .before .before .before .before .before in
         let e = c .before .before .entry-at in
         check-malformed t (s .args .limit) held (s .args .i) _ survivors (s .args .used) (s .args .m) _ _ h l (e .ensures .0) (e .ensures .1) k (s .pre .2) (sym (c .before .well-formed .ensures) ∙ not-true _ (c .if1 .taken)))
 
@@ -41,7 +41,7 @@ append-requires : tie.Need-append-requires
 append-requires c κs = search needs
 
 add-t28 : tie.Need-add-t28
-add-t28 c = let s = c .before .before .before .before .before .before .before .before .before .before .before .before .before .before .before .before .before .before .before .before .before .before in omega (arith, s .pre .1, s .pre .2)
+add-t28 c = let s = c .before .before .before .before .before .before .before .before .before .before .before .before .before .before .before .before .before .before .before .before .before in omega (arith, s .pre .1, s .pre .2)
 
 same-length-2 : tie.Need-same-length-2
 same-length-2 c = search needs
@@ -51,7 +51,7 @@ same-length-3 c = search needs
 
 returns-2 : tie.Need-returns-2
 returns-2 c = (omega arith, λ p costs t held survivors h l k.
-        let s = c .before .before .before .before .before .before .before .before .before .before .before .before .before .before .before .before .before .before in
+        let s = c .before .before .before .before .before .before .before .before .before .before .before .before .before .before .before .before .before in
         let e = c .before .before .before .before .before .before .before .before .before .entry-at in
         let f = sym (c .before .before .before .before .before .before .before .before .well-formed .ensures) ∙ not-false _ (c .before .before .before .before .before .before .before .if1 .left) in
         let a = offer-held t _ _ f (omega (arith, e .ensures .0, c .before .before .before .before .before .before .before .before .before .before .before .slice-known2 .given (2 * s .args .i))) (omega (arith, e .ensures .1, c .before .before .before .before .before .before .before .before .before .before .before .slice-known2 .given (2 * s .args .i + 1))) in
@@ -65,7 +65,7 @@ same-length-5 c = search needs
 
 returns-3 : tie.Need-returns-3
 returns-3 c = (omega arith, λ p costs t held survivors h l k.
-        let s = c .before .before .before .before .before .before .before .before .before .before .before .before .before .before .before .before .before .before in
+        let s = c .before .before .before .before .before .before .before .before .before .before .before .before .before .before .before .before .before in
         let e = c .before .before .before .before .before .before .before .before .before .entry-at in
         let f = sym (c .before .before .before .before .before .before .before .before .well-formed .ensures) ∙ not-false _ (c .before .before .before .before .before .before .before .if1 .left) in
         let a = offer-held t _ _ f (omega (arith, e .ensures .0, c .before .before .before .before .before .before .before .before .before .before .before .slice-known2 .given (2 * s .args .i))) (omega (arith, e .ensures .1, c .before .before .before .before .before .before .before .before .before .before .before .slice-known2 .given (2 * s .args .i + 1))) in
@@ -79,7 +79,7 @@ same-length-7 c = search needs
 
 returns-4 : tie.Need-returns-4
 returns-4 c = (omega arith, λ p costs t held survivors h l k.
-        let s = c .before .before .before .before .before .before .before .before .before .before .before .before .before .before .before .before .before .before .before .before .before .before in
+        let s = c .before .before .before .before .before .before .before .before .before .before .before .before .before .before .before .before .before .before .before .before .before in
         let e = c .before .before .before .before .before .before .before .before .before .before .before .before .before .entry-at in
         let f = sym (c .before .before .before .before .before .before .before .before .before .before .before .before .well-formed .ensures) ∙ not-false _ (c .before .before .before .before .before .before .before .before .before .before .before .if1 .left) in
         let a = offer-held t _ _ f (omega (arith, e .ensures .0, c .before .before .before .before .before .before .before .before .before .before .before .before .before .before .before .slice-known2 .given (2 * s .args .i))) (omega (arith, e .ensures .1, c .before .before .before .before .before .before .before .before .before .before .before .before .before .before .before .slice-known2 .given (2 * s .args .i + 1))) in

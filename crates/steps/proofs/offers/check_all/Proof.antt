@@ -23,7 +23,7 @@ loop-holds c = (refl, refl, omega arith, omega arith, λ p costs t. checked-star
 
 check-requires : tie.Need-check-requires Inv-loop μ-loop
 check-requires c κs = 
-    let s = c .before .before .before .before .before .before .before .before .before .before .before in
+    let s = c .before .before .before .before .before .before .before .before .before .before in
     let l = c .before .before .before .loop in
     (ready-again (s .pre .0) (l .inv .1), omega (arith, s .pre .1, l .inv .0, l .inv .3), l .inv .2)
 
@@ -40,7 +40,7 @@ returns : tie.Need-returns Inv-loop μ-loop
 returns c p costs t =
     let k = c .before .before .before .before .before .before .before .check in
     let l = c .before .before .before .before .before .before .before .before .before .before .before .loop in
-    let s = c .before .before .before .before .before .before .before .before .before .before .before .before .before .before .before .before .before .before .before in
+    let s = c .before .before .before .before .before .before .before .before .before .before .before .before .before .before .before .before .before .before in
     let h = l .inv .4 p costs t in
     checked-broken h (c .before .n .given .1) (k .ensures .1 p costs t (s .args .held) (h .survivors) (c .before .before .before .before .before .before .before .before .before .before .loop-test .taken) (omega (arith, s .pre .1, l .inv .0)) (h .keeps))
 
@@ -57,7 +57,7 @@ loop-again : tie.Need-loop-again Inv-loop μ-loop
 loop-again c =
     let k = c .before .before .before .before .before .before .before .check in
     let l = c .before .before .before .before .before .before .before .before .before .before .before .loop in
-    let s = c .before .before .before .before .before .before .before .before .before .before .before .before .before .before .before .before .before .before .before in
+    let s = c .before .before .before .before .before .before .before .before .before .before .before .before .before .before .before .before .before .before in
     let e = c .before .n2 .given .1 in
     let few = rw e at (k .ensures .0) in
     (k .kept .1 .1 .1 .1 .1 .1 .1 .0 ∙ l .inv .0, k .kept .1 .1 .1 .1 .1 .1 .0 ∙ l .inv .1, omega (arith, few, l .inv .2), omega (arith, c .before .before .before .before .before .before .before .before .before .before .loop-test .taken), λ p costs t.

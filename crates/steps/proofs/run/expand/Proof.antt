@@ -12,13 +12,13 @@ widened-requires : tie.Need-widened-requires
 widened-requires c κs = search needs
 
 first-unresolved-requires : tie.Need-first-unresolved-requires
-first-unresolved-requires c κs = removed-room (c .before .before .before .before .before .before .before .before .before .before .before .before .before .before .pre .taken)
+first-unresolved-requires c κs = removed-room (c .before .before .before .before .before .before .before .before .before .before .before .before .before .pre .taken)
 
 enum-known-m : tie.Need-enum-known-m
 enum-known-m c = search needs
 
 resolve-requires : tie.Need-resolve-requires
-resolve-requires c κs = children-given (c .before .before .before .before .before .before .before .before .before .before .before .before .before .before .before .before .before .before .before .before .pre)
+resolve-requires c κs = children-given (c .before .before .before .before .before .before .before .before .before .before .before .before .before .before .before .before .before .before .before .pre)
 
 put-requires : tie.Need-put-requires
 put-requires c κs = search needs
@@ -30,7 +30,7 @@ is-full-requires : tie.Need-is-full-requires
 is-full-requires c κs = search needs
 
 judge-requires : tie.Need-judge-requires
-judge-requires c κs = judge-given (c .before .before .before .before .before .before .before .before .before .before .before .before .before .before .before .before .before .before .before .before .before .before .before .before .pre)
+judge-requires c κs = judge-given (c .before .before .before .before .before .before .before .before .before .before .before .before .before .before .before .before .before .before .before .before .before .before .before .pre)
 
 same-length : tie.Need-same-length
 same-length c = search needs
@@ -55,7 +55,7 @@ returns c t =
     rw (judged-is (t .taken) none full) at (c .before .before .before .before .before .before .before .before .before .before .judge .ensures (t .question) _ (t .tables .tabled) (t .taken) full)
 
 branch-requires : tie.Need-branch-requires
-branch-requires c κs = children-given (c .before .before .before .before .before .before .before .before .before .before .before .before .before .before .before .before .before .before .before .before .before .pre)
+branch-requires c κs = children-given (c .before .before .before .before .before .before .before .before .before .before .before .before .before .before .before .before .before .before .before .before .pre)
 
 put-requires-2 : tie.Need-put-requires-2
 put-requires-2 c κs = search needs

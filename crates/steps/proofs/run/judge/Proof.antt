@@ -24,7 +24,7 @@ enum-known-t-2 c = search needs
 
 learn-requires : tie.Need-learn-requires
 learn-requires c κs =
-    let s = c .before .before .before .before .before .before .before .before .before .before .before .before .before .before .before .before .before .before .before .before .before .before .before in
+    let s = c .before .before .before .before .before .before .before .before .before .before .before .before .before .before .before .before .before .before .before .before .before .before in
     (ready-again (s .pre .0) (c .before .before .before .before .before .before .before .before .tested .kept .1 .1 .1 .1 .1 .1 .0), can-count (s .pre .1 .1) (c .before .before .before .before .before .before .before .before .before .before .before .if1 .left), s .pre .1 .1 .turn .standing .room)
 
 enum-known-t-3 : tie.Need-enum-known-t-3
@@ -37,16 +37,16 @@ mul-codes : tie.Need-mul-codes
 mul-codes c = search needs
 
 slice-write-codes : tie.Need-slice-write-codes
-slice-write-codes c = codes-place (c .before .before .before .before .before .before .before .before .before .before .before .before .before .before .before .before .before .before .before .before .before .pre .1 .1)
+slice-write-codes c = codes-place (c .before .before .before .before .before .before .before .before .before .before .before .before .before .before .before .before .before .before .before .before .pre .1 .1)
 
 mul-costs : tie.Need-mul-costs
 mul-costs c = search needs
 
 slice-write-costs : tie.Need-slice-write-costs
-slice-write-costs c = costs-place (c .before .before .before .before .before .before .before .before .before .before .before .before .before .before .before .before .before .before .before .before .before .pre .1 .1)
+slice-write-costs c = costs-place (c .before .before .before .before .before .before .before .before .before .before .before .before .before .before .before .before .before .before .before .before .pre .1 .1)
 
 add-t37 : tie.Need-add-t37
-add-t37 c = let s = c .before .before .before .before .before .before .before .before .before .before .before .before .before .before .before .before .before .before .before .before .before .before in omega (arith, listed-less (s .pre .1 .1), can-count (s .pre .1 .1) (c .before .before .before .before .before .before .before .before .before .before .if1 .left) .tested-less)
+add-t37 c = let s = c .before .before .before .before .before .before .before .before .before .before .before .before .before .before .before .before .before .before .before .before .before in omega (arith, listed-less (s .pre .1 .1), can-count (s .pre .1 .1) (c .before .before .before .before .before .before .before .before .before .before .if1 .left) .tested-less)
 
 add-t38 : tie.Need-add-t38
 add-t38 c = search needs

@@ -23,7 +23,7 @@ from-entry-requires c κs = search needs
 expand-requires : tie.Need-expand-requires
 expand-requires c κs =
     let p = c .before .before .before .before .before .before .before .before .before .pop in
-    removes (c .before .before .before .before .before .before .before .before .before .before .before .before .before .before .before .before .before .before .before .before .before .before .before .before .before .before .pre) (omega arith) (omega arith) _ (p .kept .0) _ _ _ (p .ensures) (c .from-entry .ensures)
+    removes (c .before .before .before .before .before .before .before .before .before .before .before .before .before .before .before .before .before .before .before .before .before .before .before .before .before .pre) (omega arith) (omega arith) _ (p .kept .0) _ _ _ (p .ensures) (c .from-entry .ensures)
 
 same-length : tie.Need-same-length
 same-length c = search needs
