@@ -22,6 +22,18 @@ static void join(uint64_t *into, const uint64_t *row)
         into[i] |= row[i];
 }
 
+/* Puts the clause into the rows of the values at which the literal holds. */
+static void mark(set *rows, const uint8_t *triple, size_t size, size_t clause)
+{
+    if (triple[1] == 0) {
+        add(rows[triple[2]], clause);
+        return;
+    }
+    for (size_t x = 0; x < size; x++)
+        if (x != triple[2])
+            add(rows[x], clause);
+}
+
 static void build_sets(const struct tables *t, struct sets *s)
 {
     memset(s->satisfied, 0, t->variables * sizeof s->satisfied[0]);
@@ -31,9 +43,7 @@ static void build_sets(const struct tables *t, struct sets *s)
         for (size_t i = 0; i < t->counts[c]; i++, triple += 3) {
             size_t v = triple[0];
             add(s->mentioning[v], c);
-            for (size_t x = 0; x < t->sizes[v]; x++)
-                if ((x == triple[2]) != (triple[1] == 1))
-                    add(s->satisfied[v][x], c);
+            mark(s->satisfied[v], triple, t->sizes[v], c);
         }
 }
 
@@ -98,6 +108,22 @@ static bool is_in(struct pair p, size_t clause)
     return clause < 128 && (clause < 64 ? p.first : p.second) >> (clause % 64) & 1;
 }
 
+/* Whether the word has each of its first n bits. */
+static bool has_low(uint64_t word, size_t n)
+{
+    if (n < 64)
+        return (~word & ((UINT64_C(1) << n) - 1)) == 0;
+    return n == 64 && word == UINT64_MAX;
+}
+
+/* Whether the set has each of the first n clauses. */
+static bool has_all(struct pair p, size_t n)
+{
+    if (n <= 64)
+        return has_low(p.first, n);
+    return has_low(p.first, 64) && has_low(p.second, n - 64);
+}
+
 static bool clause_is_false(const uint8_t *part, size_t count, const uint8_t *values)
 {
     for (size_t i = 0; i < count; i++, part += 3) {
@@ -108,13 +134,15 @@ static bool clause_is_false(const uint8_t *part, size_t count, const uint8_t *va
     return true;
 }
 
-/* The first question of a test, by a scan of the literals; a clause in `open`
- * has an unassigned variable. */
-static bool some_clause_is_false(const struct tables *t, const uint8_t *values, struct pair open)
+/* The first question of a test, by a scan of the literals; a clause in `clear`
+ * has an unassigned variable or is satisfied. */
+static bool some_clause_is_false(const struct tables *t, const uint8_t *values, struct pair clear)
 {
+    if (has_all(clear, t->clauses))
+        return false;
     const uint8_t *part = t->literals;
     for (size_t c = 0; c < t->clauses; c++) {
-        if (!is_in(open, c) && clause_is_false(part, t->counts[c], values))
+        if (!is_in(clear, c) && clause_is_false(part, t->counts[c], values))
             return true;
         part += 3 * t->counts[c];
     }
@@ -123,10 +151,16 @@ static bool some_clause_is_false(const struct tables *t, const uint8_t *values, 
 
 /* ---- of at most 128 clauses: sets of two words ---- */
 
-/* At an unassigned variable: the next one, and the clauses due. */
+/* At an unassigned variable: its size, the next one, and the clauses due. Once
+ * values are found, its value is in place of its size. */
 struct row {
-    size_t next;
+    size_t size, next;
     struct pair due;
+};
+
+struct plan {
+    struct row rows[VARIABLES_MOST];
+    size_t end; /* the number of variables */
 };
 
 /* What the variables satisfy and leave open, and the first unassigned one. */
@@ -135,53 +169,82 @@ struct start {
     size_t next;
 };
 
-static struct start make_plan(const struct search *s, struct row *plan)
+/* How a search ends, with the trials left. */
+struct outcome {
+    enum answer answer;
+    uint32_t left;
+};
+
+static struct start make_plan(const struct search *s, struct plan *plan)
 {
-    struct start made = {{0, 0}, {0, 0}, s->tables->variables};
-    for (size_t v = s->tables->variables; v-- > 0;) {
+    plan->end = s->tables->variables;
+    struct start made = {{0, 0}, {0, 0}, plan->end};
+    for (size_t v = plan->end; v-- > 0;) {
         if (s->values[v] != UNASSIGNED) {
             made.held = with_row(made.held, s->sets->satisfied[v][s->values[v]]);
             continue;
         }
         const uint64_t *mentioning = s->sets->mentioning[v];
-        plan[v].next = made.next;
-        plan[v].due.first = mentioning[0] & ~made.open.first;
-        plan[v].due.second = mentioning[1] & ~made.open.second;
+        struct row *row = &plan->rows[v];
+        row->size = s->tables->sizes[v];
+        row->next = made.next;
+        row->due.first = mentioning[0] & ~made.open.first;
+        row->due.second = mentioning[1] & ~made.open.second;
         made.open = with_row(made.open, mentioning);
         made.next = v;
     }
     return made;
 }
 
-/* Sets the unassigned variables from v on. */
-static enum answer descend_pairs(struct search *s, const struct row *plan, size_t v, struct pair held)
+/* Finds values of the unassigned variables from v on. The set is handed down as
+ * two words: gcc would pass a struct of them through memory. */
+static struct outcome descend_pairs(const struct sets *sets, struct plan *plan, uint64_t first,
+                                    uint64_t second, size_t v, uint32_t left)
 {
-    if (v == s->tables->variables)
-        return CONSISTENT;
-    struct row row = plan[v];
-    size_t size = s->tables->sizes[v];
+    if (v == plan->end)
+        return (struct outcome){CONSISTENT, left};
+    struct row *row = &plan->rows[v];
+    size_t size = row->size;
     for (size_t x = 0; x < size; x++) {
-        if (s->trials >= s->limit)
-            return SPENT;
-        s->trials++;
-        struct pair joined = with_row(held, s->sets->satisfied[v][x]);
-        if (row.due.first & ~joined.first || row.due.second & ~joined.second)
+        if (left == 0)
+            return (struct outcome){SPENT, 0};
+        left--;
+        const uint64_t *satisfied = sets->satisfied[v][x];
+        uint64_t a = first | satisfied[0], b = second | satisfied[1];
+        if (row->due.first & ~a || row->due.second & ~b)
             continue;
-        s->values[v] = (uint8_t)x;
-        enum answer answer = descend_pairs(s, plan, row.next, joined);
-        if (answer != INCONSISTENT)
-            return answer;
+        struct outcome rest = descend_pairs(sets, plan, a, b, row->next, left);
+        if (rest.answer != INCONSISTENT) {
+            row->size = x;
+            return rest;
+        }
+        left = rest.left;
     }
-    return INCONSISTENT;
+    return (struct outcome){INCONSISTENT, left};
+}
+
+/* Takes over the values found. */
+static void fill_values(uint8_t *values, const struct plan *plan)
+{
+    for (size_t v = 0; v < plan->end; v++)
+        if (values[v] == UNASSIGNED)
+            values[v] = (uint8_t)plan->rows[v].size;
 }
 
 static enum answer test_pairs(struct search *s)
 {
-    struct row plan[VARIABLES_MOST];
-    struct start made = make_plan(s, plan);
-    if (some_clause_is_false(s->tables, s->values, made.open))
+    struct plan plan;
+    struct start made = make_plan(s, &plan);
+    struct pair clear = {made.held.first | made.open.first, made.held.second | made.open.second};
+    if (some_clause_is_false(s->tables, s->values, clear))
         return INCONSISTENT;
-    return descend_pairs(s, plan, made.next, made.held);
+    uint32_t left = s->limit - s->trials;
+    struct outcome found =
+        descend_pairs(s->sets, &plan, made.held.first, made.held.second, made.next, left);
+    s->trials += left - found.left;
+    if (found.answer == CONSISTENT)
+        fill_values(s->values, &plan);
+    return found.answer;
 }
 
 /* ---- of any number: sets of eight words ---- */
