@@ -16,9 +16,11 @@ use Rattle.theory.proofs.Lists.{all-join, all-at}
 use Rattle.theory.proofs.Agreement.{valid-length}
 use Rattle.theory.proofs.Tables.{tabled-count, tabled-few, tabled-sizes, tabled-clauses, tabled-sized}
 use Rattle.theory.proofs.Words.{words-hold, assignment-length, assignment-small}
+use Rattle.clauses.specs.Bytes.{given}
+use Rattle.clauses.specs.Tables.{Prepared}
 use Rattle.consistency.specs.declared.Answer.{Answer}
-use Rattle.consistency.specs.Answers.{given, testOver, Ended}
-use Rattle.consistency.specs.Given.{Prepared, Given}
+use Rattle.consistency.specs.Answers.{testOver, Ended}
+use Rattle.consistency.specs.Given.{Given}
 use Rattle.consistency.proofs.Callers.{plant-tables, plant-ended}
 use Rattle.conflict.specs.Given.{Limits, Ready}
 use Rattle.conflict.proofs.Bytes.{small-behind, byte-most}

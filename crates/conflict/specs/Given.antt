@@ -7,7 +7,7 @@ use Rattle.model.specs.Sheet.{Plant, decisionSizes}
 use Rattle.model.specs.Assignment.{Assignment, Valid}
 use Rattle.theory.specs.Tables.{clauses, Tabled}
 use Rattle.theory.specs.Words.{Words}
-use Rattle.consistency.specs.Given.{Tables, Prepared}
+use Rattle.clauses.specs.Tables.{Tables, Prepared}
 
 -- tables within the limits: at most 16 decision variables among at most 48, at most 16 values each, and their clauses
 pub record Limits (d : ℕ) (sizes counts lits : List ℕ) : Type 0 where

@@ -3,7 +3,7 @@ use super::reduce::Reduced;
 use super::reduce::reduce;
 use super::tests::tested;
 use consistency::Answer;
-use consistency::tables::prepare;
+use clauses::tables::prepare;
 ghost use mathlib.Core.Path.{_≡_};
 ghost use mathlib.Core.List.{[], _∷_};
 ghost use Prim.Native.Nat.{_≤_};

@@ -1,4 +1,4 @@
--- An assignment lent as bytes: reading, storing and the values of a full one. Assumes nothing.
+-- An assignment lent as bytes: one byte to and fro, storing, and the values of a full one. Assumes nothing.
 use mathlib.Core.Path.{_≡_, refl, sym, ap, ap₂, _∙_}
 use mathlib.Core.Bool.{true, not, false≢true}
 use mathlib.Core.Option.{Option, none, some}
@@ -13,17 +13,10 @@ use Rattle.model.specs.Lists.{All}
 use Rattle.model.specs.Assignment.{Assignment, Under, isSome, nibble, valueList}
 use Rattle.theory.specs.Words.{byte}
 use Rattle.theory.specs.Nodes.{Filled}
-use Rattle.consistency.specs.Answers.{given}
+use Rattle.clauses.specs.Bytes.{given}
+use Rattle.clauses.proofs.Bytes.{given-none, given-some}
 
 -- ---- one byte
-
-pub given-none : (b : ℕ) → b ≡ 16 → given b ≡ none
-unfolding given
-given-none b e = rw (given, eq-eqb b 16 e)
-
-pub given-some : (b : ℕ) → (b ≡ 16 → ⊥) → given b ≡ some b
-unfolding given
-given-some b d = rw (given, ne-eqb b 16 d)
 
 -- a byte is 16 exactly where nothing is given
 pub none-given : (b : ℕ) → given b ≡ none → b ≡ 16
@@ -45,11 +38,6 @@ given-byte (some x) h = given-some x (λ e. omega arith)
 pub given-length : (vals : List ℕ) → length (map given vals) ≡ length vals
 given-length [] = refl
 given-length (b ∷ vals) = ap suc (given-length vals)
-
-pub given-at : (vals : List ℕ) (v : ℕ) → v < length vals → getD (map given vals) v none ≡ given (getD vals v 0)
-given-at [] v h = absurd (omega arith)
-given-at (b ∷ vals) zero h = refl
-given-at (b ∷ vals) (suc v) h = given-at vals v (omega arith)
 
 pub given-set : (vals : List ℕ) (v b : ℕ) → map given (set vals v b) ≡ set (map given vals) v (given b)
 given-set [] v b = refl

@@ -2,12 +2,12 @@
 use mathlib.Core.Path.{_≡_, refl, sym, ap, ap₂, _∙_}
 use mathlib.Core.Option.{none, some}
 use mathlib.Core.List.{List, [], _∷_, _++_, map}
-use Prim.Native.Nat.{ℕ, zero, suc, _+_, _*_, _<_, _≤_}
+use Prim.Native.Nat.{ℕ, zero, suc, _+_, _*_, _≤_}
 use native.Mathlib.Omega.{arith}
 use lib.ListN.{length, getD, take, drop, length-take, length-drop, length-append}
 use lib.Seq.{take-add}
 use Rattle.model.specs.Lists.{All}
-use Rattle.model.specs.Sheet.{Literal, Plant, edition1, decisionSizes, sizes}
+use Rattle.model.specs.Sheet.{Plant, edition1, decisionSizes, sizes}
 use Rattle.model.specs.Assignment.{Assignment, Under, Valid}
 use Rattle.model.specs.Consistency.{test, overAll}
 use Rattle.theory.specs.Tables.{clauses, total, rows, plantOf}
@@ -18,9 +18,12 @@ use Rattle.theory.proofs.Agreement.{valid-length, valid-over}
 use Rattle.theory.proofs.Words.{valid-small}
 use Rattle.theory.proofs.Test.{accepted-present}
 use Rattle.theory.proofs.TableClauses.{clauses-length}
+use Rattle.clauses.specs.Bytes.{given}
+use Rattle.clauses.specs.Tables.{Tables, Prepared}
+use Rattle.clauses.proofs.Callers.{tables-more}
 use Rattle.consistency.specs.declared.Answer.{Answer}
-use Rattle.consistency.specs.Answers.{given, testOver, Ended}
-use Rattle.consistency.specs.Given.{Tables, Prepared, Given}
+use Rattle.consistency.specs.Answers.{testOver, Ended}
+use Rattle.consistency.specs.Given.{Given}
 use Rattle.consistency.proofs.Bytes.{given-bytes}
 use Rattle.consistency.proofs.Endings.{moved}
 
@@ -30,16 +33,6 @@ use Rattle.consistency.proofs.Endings.{moved}
 pub test-over : (p : Plant) (limit : ℕ) (a : Assignment) (used : ℕ) → test p limit a used ≡ testOver (p .clauses) (sizes p) limit used (overAll p a)
 unfolding test testOver
 test-over p limit a used = refl
-
--- ---- tables
-
--- tables over n variables are tables over more
-pub tables-more : (n m : ℕ) (counts lits : List ℕ) → n ≤ m → Tables n counts lits → Tables m counts lits
-tables-more n m counts lits h t = record {
-  most = t .most;
-  room = t .room;
-  below = all-map (all-map {P = λ (l : Literal). l .variable < n} {Q = λ (l : Literal). l .variable < m} (λ l b. omega arith)) (clauses counts lits) (t .below);
-}
 
 at-most : (n : ℕ) (xs : List ℕ) → All (λ x. x ≤ n) xs → (v : ℕ) → getD xs v 0 ≤ n
 at-most n [] h v = omega arith

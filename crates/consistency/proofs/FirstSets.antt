@@ -14,18 +14,15 @@ use Rattle.model.specs.Sheet.{Literal}
 use Rattle.model.specs.Assignment.{isSome, nibble}
 use Rattle.theory.specs.Search.{nth, satisfiedAt, satisfiedFrom, waits, due}
 use Rattle.theory.proofs.Search.{waits-step, waits-end, satisfied-step, satisfied-end, satisfied-all}
-use Rattle.consistency.specs.Answers.{given}
-use Rattle.consistency.specs.Sets.{inSet, inPair, SetIs}
+use Rattle.clauses.specs.Bytes.{given}
+use Rattle.clauses.specs.Sets.{inSet, inPair, SetIs}
+use Rattle.clauses.proofs.Bits.{bit-zero}
+use Rattle.clauses.proofs.Bytes.{given-at, given-none, given-some}
+use Rattle.clauses.proofs.Callers.{zeros}
 use Rattle.consistency.specs.Given.{Clauses, DueFrom, SetsFrom, Started}
-use Rattle.consistency.proofs.Bits.{bit-zero}
-use Rattle.consistency.proofs.Bytes.{given-at, given-none, given-some, is-given}
+use Rattle.consistency.proofs.Bytes.{is-given}
 
--- a table of nothing, and a set of nothing
-pub zeros : (n k : ℕ) → getD {A = ℕ} (replicate n 0) k 0 ≡ 0
-zeros zero k = refl
-zeros (suc n) zero = refl
-zeros (suc n) (suc k) = zeros n k
-
+-- a set of nothing
 pub empty : (c : ℕ) → inSet (replicate 8 0) 0 c ≡ false
 unfolding inSet
 empty c = rw (zeros 8 (0 * 8 + c / 64)) (bit-zero (c % 64))

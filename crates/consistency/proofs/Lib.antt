@@ -1,15 +1,10 @@
-pub mod Bits
 pub mod Bytes
 pub mod Callers
 pub mod Endings
-pub mod Filling
 pub mod FirstSets
-pub mod Marks
 pub mod Noted
 pub mod PairTurns
 pub mod Pairs
-pub mod Parts
 pub mod Plans
-pub mod Rows
 pub mod Turns
 pub mod Whole

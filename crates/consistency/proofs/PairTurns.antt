@@ -7,10 +7,10 @@ use native.Mathlib.Omega.{arith}
 use native.Mathlib.Decide.{ℕ-discrete}
 use lib.ListN.{length, getD, set, length-set}
 use lib.Seq.{getD-set-other, set-set, set-getD}
+use Rattle.clauses.specs.Sets.{inSet, Within}
 use Rattle.consistency.specs.declared.Answer.{Answer}
 use Rattle.consistency.specs.declared.Answer.the-variants.{Consistent, Inconsistent, Spent}
 use Rattle.consistency.specs.Answers.{told, trialsIn, afterwards}
-use Rattle.consistency.specs.Sets.{inSet, Within}
 use Rattle.consistency.specs.Given.{NextFree, Bytes, inPlan, PlanFor, Searchable, Searches, Finds}
 use Rattle.consistency.proofs.Turns.{passed-over, none-left, Turn, turn-first, turn-end, turn-stop, turn-again, deep-found, deep-stop, deep-again, value}
 use Rattle.consistency.proofs.Bytes.{all-given}

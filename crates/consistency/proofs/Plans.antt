@@ -9,7 +9,7 @@ use borrow.Author.Tests.{eq-eqb, ne-eqb}
 use lib.Bits.{bitAnd, bitOr, bitXor}
 use lib.ListN.{length, getD, set, length-set}
 use lib.Seq.{getD-set-same, getD-set-other}
-use Rattle.consistency.specs.Sets.{bit, inPair}
+use Rattle.clauses.specs.Sets.{bit, inPair}
 use Rattle.consistency.specs.Given.{Lent, NextFree, inPlan, Rows, Planned}
 use Rattle.consistency.proofs.FirstSets.{none-in-pair, from-first, from-next}
 use Rattle.consistency.proofs.Pairs.{pair-or, plan-less}

@@ -15,13 +15,15 @@ use Rattle.theory.specs.Search.{nth, satisfied, due}
 use Rattle.theory.proofs.Agreement.{filled-more}
 use Rattle.theory.proofs.TestSteps.{attempt, attempt-false, attempt-deeper, turn, turn-spent, hop-try, hop-skip}
 use Rattle.theory.proofs.Search.{due-set, satisfied-set, filled-next, trial-clear, trial-satisfied}
+use Rattle.clauses.specs.Bytes.{given}
+use Rattle.clauses.specs.Sets.{SetIs, Within}
+use Rattle.clauses.proofs.Bytes.{given-at, given-none, given-some}
 use Rattle.consistency.specs.declared.Answer.{Answer}
 use Rattle.consistency.specs.declared.Answer.the-variants.{Consistent, Inconsistent, Spent}
-use Rattle.consistency.specs.Answers.{given, Ended}
-use Rattle.consistency.specs.Sets.{SetIs, Within}
+use Rattle.consistency.specs.Answers.{Ended}
 use Rattle.consistency.specs.Given.{Bytes, NextFree, Stands, Searches}
 use Rattle.consistency.proofs.Endings.{as-consistent, as-inconsistent, as-spent, was-consistent, was-inconsistent, was-spent, moved}
-use Rattle.consistency.proofs.Bytes.{given-length, given-at, given-set, given-none, given-some, filled-values}
+use Rattle.consistency.proofs.Bytes.{given-length, given-set, filled-values}
 
 -- ---- at the variable v
 

@@ -12,14 +12,17 @@ use Rattle.theory.specs.Tables.{clauses}
 use Rattle.theory.specs.Search.{nth}
 use Rattle.theory.proofs.Search.{false-filled}
 use Rattle.theory.proofs.TableClauses.{clauses-length}
+use Rattle.clauses.specs.Bytes.{given}
+use Rattle.clauses.specs.Sets.{inSet, inPair}
+use Rattle.clauses.specs.Tables.{Tables}
+use Rattle.clauses.proofs.Pairs.{pair-past}
 use Rattle.consistency.specs.declared.Answer.{Answer}
 use Rattle.consistency.specs.declared.Answer.the-variants.{Inconsistent}
-use Rattle.consistency.specs.Answers.{given, testOver, Ended}
-use Rattle.consistency.specs.Sets.{inSet, inPair}
-use Rattle.consistency.specs.Given.{Tables, Given, Lent, Starts, Bytes, Searches, inPlan, Planned, PlanFor, Searchable}
+use Rattle.consistency.specs.Answers.{testOver, Ended}
+use Rattle.consistency.specs.Given.{Given, Lent, Starts, Bytes, Searches, inPlan, Planned, PlanFor, Searchable}
 use Rattle.consistency.proofs.Endings.{as-inconsistent, moved}
 use Rattle.consistency.proofs.FirstSets.{from-end}
-use Rattle.consistency.proofs.Pairs.{pair-past, pair-join}
+use Rattle.consistency.proofs.Pairs.{pair-join}
 use Rattle.consistency.proofs.Turns.{passed-over}
 
 module _ (sizes counts lits sat uses vals : List ℕ) (g : Given sizes counts lits sat uses vals) where

@@ -1,24 +1,15 @@
--- A lent assignment, and what the test answers and leaves in it. Assumes nothing: these are definitions.
+-- What the test answers, and what it leaves in the lent bytes. Assumes nothing: these are definitions.
 use mathlib.Core.Path.{_≡_}
-use mathlib.Core.Bool.{Bool, true, false, not}
-use mathlib.Core.Option.{Option, none, some}
+use mathlib.Core.Bool.{true, false}
 use mathlib.Core.List.{List, [], _∷_}
 use Prim.Native.Nat.{ℕ, zero, suc, _+_, _-_, _/_, _%_}
 use lib.Dec.{eqb}
 use lib.ListN.{length, getD}
 use Rattle.model.specs.Sheet.{Literal}
 use Rattle.model.specs.Assignment.{Assignment}
-use Rattle.model.specs.Consistency.{Tested, consistent, inconsistent, spent, holdsAt, anyFalse, explore}
+use Rattle.model.specs.Consistency.{Tested, consistent, inconsistent, spent, anyFalse, explore}
 use Rattle.consistency.specs.declared.Answer.{Answer}
 use Rattle.consistency.specs.declared.Answer.the-variants.{Consistent, Inconsistent, Spent}
-
--- what a byte says of a variable: 16 that it is unassigned, else its value
-unfoldable pub given : ℕ → Option ℕ
-given b = elim (eqb b 16) [ true ↦ none | false ↦ some b ]
-
--- whether a literal of this sign and value fails where this is given of its variable
-unfoldable pub failsAt : Option ℕ → ℕ → ℕ → Bool
-failsAt o sign value = elim o [ none ↦ false | some x ↦ not (holdsAt x sign value) ]
 
 -- the model's test over an assignment to all variables
 unfoldable pub testOver : List (List Literal) → List ℕ → ℕ → ℕ → Assignment → Tested

@@ -1,4 +1,4 @@
--- What is given to the test and its parts: tables within the limits, and the sets made of them. Assumes nothing: these are definitions.
+-- What is given to the test and its parts, and the sets made of it. Assumes nothing: these are definitions.
 use mathlib.Core.Path.{_≡_}
 use mathlib.Core.Bool.{Bool, false}
 use mathlib.Core.Option.{none}
@@ -8,28 +8,15 @@ use lib.ListN.{length, getD}
 use Rattle.model.specs.Lists.{All}
 use Rattle.model.specs.Sheet.{Literal}
 use Rattle.model.specs.Consistency.{anyFalse, explore}
-use Rattle.theory.specs.Tables.{clauses, total}
-use Rattle.theory.specs.Search.{mentions, satisfiedAt, satisfied, satisfiedFrom, waits, due}
+use Rattle.theory.specs.Tables.{clauses}
+use Rattle.theory.specs.Search.{satisfiedAt, satisfied, satisfiedFrom, waits, due}
 use Rattle.theory.specs.Nodes.{Filled}
-use Rattle.consistency.specs.Answers.{given, Ended, told, afterwards}
-use Rattle.consistency.specs.Sets.{inWords, inSet, SetIs, SetOf}
+use Rattle.clauses.specs.Bytes.{given}
+use Rattle.clauses.specs.Sets.{inWords, inSet, SetIs}
+use Rattle.clauses.specs.Tables.{Tables, Prepared}
+use Rattle.consistency.specs.Answers.{Ended, told, afterwards}
 use Rattle.consistency.specs.declared.Answer.{Answer}
 use Rattle.consistency.specs.declared.Answer.the-variants.{Inconsistent}
-
--- ---- the tables
-
--- at most 512 clauses over n variables, with the literals that the counts say
-pub record Tables (n : ℕ) (counts lits : List ℕ) : Type 0 where
-  pub most : length counts ≤ 512
-  pub room : 3 * total counts ≤ length lits
-  pub below : All (All (λ l. l .variable < n)) (clauses counts lits)
-
--- the two tables of sets that are made of the clauses: what each value of each variable satisfies, and what mentions each variable
-pub record Prepared (cs : List (List Literal)) (sat uses : List ℕ) : Type 0 where
-  pub sat-long : 6144 ≤ length sat
-  pub uses-long : 384 ≤ length uses
-  pub satisfies : (v x : ℕ) → v < 48 → x < 16 → SetOf (satisfiedAt v x) cs sat (v * 16 + x)
-  pub mentioned : (v : ℕ) → v < 48 → SetOf (mentions v) cs uses v
 
 -- what the test is given: at most 48 variables with at most 16 values, a byte for each, their clauses, and the tables made of these
 pub record Given (sizes counts lits sat uses vals : List ℕ) : Type 0 where

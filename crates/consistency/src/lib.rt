@@ -1,21 +1,19 @@
 // The consistency test over decoded tables: whether values of all unassigned variables make every clause hold, with the
-// trials that document 01 counts. `clauses` asks the first question, whether a clause is false already, on the literals
-// themselves. After that a trial is a few operations on words, since sets of clauses are bits of words: `tables` makes the
-// sets of a plant once, and the search hands down the set of the clauses that are satisfied so far. With at most 128 clauses
-// a set is two words (`pair_search`), with more it is eight (`search`, `sets`). A variable's value is a byte, and 16 says
-// that it is unassigned.
-pub mod clauses;
+// trials that document 01 counts. The first question, whether a clause is false already, is asked of the literals
+// themselves (`clauses::evaluation`). After that a trial is a few operations on words, since sets of clauses are bits of
+// words: the sets of a plant are made once (`clauses::tables`), and the search hands down the set of the clauses that are
+// satisfied so far. With at most 128 clauses a set is two words (`pair_search`), with more it is eight (`search`). A
+// variable's value is a byte, and 16 says that it is unassigned.
 mod pair_search;
 mod search;
-mod sets;
-pub mod tables;
 
-use clauses::any_false;
+use clauses::evaluation::any_false;
 ghost use Rattle.theory.specs.Tables.{clauses};
 ghost use mathlib.Core.List.{map};
 ghost use Prim.Native.Nat.{_≤_};
 ghost use lib.ListN.{length};
-ghost use Rattle.consistency.specs.Answers.{given, testOver, Ended};
+ghost use Rattle.clauses.specs.Bytes.{given};
+ghost use Rattle.consistency.specs.Answers.{testOver, Ended};
 ghost use Rattle.consistency.specs.Given.{Given};
 
 // How a test ends, with the trials made so far.

@@ -2,15 +2,15 @@
 // unassigned variable: its size, the next unassigned variable, and the clauses that are due. So each variable costs little:
 // the search hands down two words and the trials left, and notes in the plan the values that it found.
 use super::Answer;
-use super::clauses::wide;
+use clauses::evaluation::wide;
 use super::search::packed;
 use super::search::unpacked;
 ghost use mathlib.Core.Path.{_≡_};
 ghost use Prim.Native.Nat.{ℕ, _+_, _-_, _*_, _^_, _<_, _≤_};
 ghost use mathlib.Core.List.{List};
 ghost use lib.ListN.{length};
+ghost use Rattle.clauses.specs.Sets.{inSet, inPair, Within};
 ghost use Rattle.consistency.specs.Answers.{answerIn, told, trialsIn, filledFrom, afterwards};
-ghost use Rattle.consistency.specs.Sets.{inSet, inPair, Within};
 ghost use Rattle.consistency.specs.Given.{Lent, inPlan, Planned, PlanFor, Searchable, Searches, Finds, Restored};
 
 // What is made of the variables from one on: the clauses that they satisfy, the clauses that one of them leaves open, and the first unassigned one.

@@ -1,15 +1,15 @@
 // The search on a plant of any number of clauses: a set is eight words.
 use super::Answer;
-use super::clauses::wide;
-use super::sets::covers_with;
-use super::sets::joined;
-use super::sets::joined_if;
-use super::sets::store_less;
+use clauses::evaluation::wide;
+use clauses::sets::covers_with;
+use clauses::sets::joined;
+use clauses::sets::joined_if;
+use clauses::sets::store_less;
 ghost use mathlib.Core.Path.{_≡_};
 ghost use Prim.Native.Nat.{_≤_};
 ghost use lib.ListN.{length};
+ghost use Rattle.clauses.specs.Sets.{inSet};
 ghost use Rattle.consistency.specs.Answers.{answerIn};
-ghost use Rattle.consistency.specs.Sets.{inSet};
 ghost use Rattle.consistency.specs.Given.{Lent, Starts, Room, NextFree, Searches};
 
 // Stores in each row of `last` the clauses that are due at its variable, and returns those that are satisfied.

@@ -17,7 +17,7 @@ use Rattle.model.specs.Calls.{byHost, refused, Buffers, firstGiven, hostGrounds
 use Rattle.theory.specs.Demand3.{PromisedBy}
 use Rattle.theory.specs.Tables.{clauses, Tabled}
 use Rattle.theory.proofs.Demand3.{promised}
-use Rattle.consistency.specs.Given.{Prepared}
+use Rattle.clauses.specs.Tables.{Prepared}
 use Rattle.store.proofs.Callers.{keeps-room}
 use Rattle.conflict.specs.Calls.{groundNumber, refusalOf}
 use Rattle.conflict.specs.declared.calls.Refusal.{Refusal}

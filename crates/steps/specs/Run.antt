@@ -10,7 +10,7 @@ use Rattle.model.specs.Order.{orderOf}
 use Rattle.model.specs.Listing.{State, Ending, enough, all, full, spent, Next, ended, more, mostTested}
 use Rattle.theory.specs.Run.{Going}
 use Rattle.theory.specs.Tables.{clauses, Tabled}
-use Rattle.consistency.specs.Given.{Prepared}
+use Rattle.clauses.specs.Tables.{Prepared}
 use Rattle.queue.specs.Queue.{Holds}
 use Rattle.store.specs.Store.{Keeps}
 use Rattle.children.specs.declared.Node.{Node}

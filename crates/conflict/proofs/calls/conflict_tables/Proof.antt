@@ -3,8 +3,7 @@ use mathlib.Core.Path.{sym, _∙_}
 use native.Mathlib.Omega.{arith}
 use borrow.Author.Needs.{needs}
 use lib.Seq.{length-take-le}
-use Rattle.consistency.proofs.Callers.{tables-more}
-use Rattle.consistency.proofs.FirstSets.{zeros}
+use Rattle.clauses.proofs.Callers.{tables-more, zeros}
 use Rattle.conflict.proofs.Asking.{plant-refuses, plant-answers}
 use Rattle.conflict.proofs.calls.conflict_tables.Statement.{statement}
 use Rattle.conflict.proofs.calls.conflict_tables.Tie as tie

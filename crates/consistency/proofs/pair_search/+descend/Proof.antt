@@ -7,7 +7,7 @@ use borrow.Author.Needs.{needs}
 use borrow.Fn.Kinds.{In}
 use borrow.Fn.PlainCycle.{Measures, is, falls, and}
 use lib.ListN.{length, length-set}
-use Rattle.consistency.specs.Sets.{inPair}
+use Rattle.clauses.specs.Sets.{inPair}
 use Rattle.consistency.proofs.Endings.{in-inconsistent, not-failed, few-consistent, few-inconsistent, few-spent, failed-few}
 use Rattle.consistency.proofs.PairTurns.{within-plan, finds-plan, Inside, inside-here, Tries, finds-end, tries-first, tries-end, tries-stop, tries-again, deep-tries, deep-finds}
 use Rattle.consistency.proofs.Pairs.{pair-or, pair-within}

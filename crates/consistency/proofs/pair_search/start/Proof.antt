@@ -4,7 +4,7 @@ use Prim.Native.Nat.{_+_, _-_, _≤_}
 use native.Mathlib.Omega.{arith}
 use lib.ListN.{length, set, length-set}
 use lib.Seq.{getD-set-same}
-use Rattle.consistency.specs.Sets.{inPair}
+use Rattle.clauses.specs.Sets.{inPair}
 use Rattle.consistency.specs.Given.{Lent, Planned}
 use Rattle.consistency.proofs.Plans.{lent-longer, planned-end}
 use Rattle.consistency.proofs.pair_search.start.Statement.{statement}

@@ -7,18 +7,18 @@ use borrow.Author.Needs.{needs}
 use borrow.Fn.Kinds.{In}
 use borrow.Fn.PlainCycle.{Measures, is, falls, and}
 use lib.ListN.{length, length-set}
-use Rattle.consistency.specs.Sets.{inSet}
+use Rattle.clauses.specs.Sets.{inSet}
 use Rattle.consistency.specs.Given.{Room}
 use Rattle.consistency.proofs.Turns.{none-left, Turn, turn-first, turn-end, turn-stop, value, row-within, room-set, turn-again, deep-found, deep-stop, deep-again}
 use Rattle.consistency.proofs.search.descend.Reads as descend′
 use Rattle.consistency.proofs.search.descend.Kinds as descend-kinds
 use Rattle.consistency.proofs.search.+descend.Lts-descend as descend-lts
-use Rattle.consistency.proofs.clauses.wide.Reads as wide-reads
+use Rattle.clauses.proofs.evaluation.wide.Reads as wide-reads
 use Rattle.consistency.proofs.search.next_free.Reads as next-free-reads
 use Rattle.consistency.proofs.search.packed.Reads as packed-reads
 use Rattle.consistency.proofs.search.unpacked.Reads as unpacked-reads
-use Rattle.consistency.proofs.sets.covers_with.Reads as covers-with-reads
-use Rattle.consistency.proofs.sets.joined.Reads as joined-reads
+use Rattle.clauses.proofs.sets.covers_with.Reads as covers-with-reads
+use Rattle.clauses.proofs.sets.joined.Reads as joined-reads
 use Rattle.consistency.proofs.search.+descend.{statement}
 use Rattle.consistency.proofs.search.+descend.Tie.{close}
 

@@ -4,7 +4,7 @@ use mathlib.Core.List.{List}
 use Prim.Native.Nat.{_+_, _-_, _≤_}
 use lib.ListN.{length}
 use Rattle.model.specs.Sheet.{Literal}
-use Rattle.consistency.specs.Sets.{inSet}
+use Rattle.clauses.specs.Sets.{inSet}
 use Rattle.consistency.specs.Given.{Lent, Clauses, SetsFrom}
 use Rattle.consistency.proofs.FirstSets.{value-below, empty, from-first, from-next, from-end}
 use native.Mathlib.Omega.{arith}

@@ -3,8 +3,7 @@ use mathlib.Core.Path.{sym}
 use native.Mathlib.Omega.{arith}
 use lib.Seq.{length-take-le}
 use Rattle.theory.proofs.Tables.{tabled-decisions, tabled-few, tabled-sized}
-use Rattle.consistency.proofs.Callers.{tables-more}
-use Rattle.consistency.proofs.FirstSets.{zeros}
+use Rattle.clauses.proofs.Callers.{tables-more, zeros}
 use Rattle.conflict.proofs.Given.{tabled-limits}
 use Rattle.listing.proofs.Answering.{lists-of, finished-room, finished-called}
 use borrow.Author.Needs.{needs}

@@ -1,0 +1,84 @@
+// Sets of at most 512 clauses: a set is eight words, and a table has a set in each of its rows.
+ghost use mathlib.Core.Path.{_≡_};
+ghost use mathlib.Core.Bool.{true, _||_};
+ghost use Prim.Native.Nat.{_+_, _*_, _<_, _≤_};
+ghost use lib.ListN.{length};
+ghost use lib.Dec.{eqb};
+ghost use Rattle.clauses.specs.Sets.{inSet, Joined, Covers, Less, Marked};
+
+// The words of a set, and of a row.
+const WORDS: usize = 8;
+
+// The set with the clauses of the row added.
+pub fn joined(set: [u64; 8], table: &[u64], row: usize) -> [u64; 8]
+    requires { ⌜ row * 8 + 8 ≤ length (now table) ⌝ }
+    ensures { λ r. ⌜ Joined set (now (table .entry)) row true r ⌝ }
+{
+    let mut out = set;
+    let mut k = 0;
+    while k < WORDS {
+        out[k] = out[k] | table[row * 8 + k];
+        k += 1;
+    }
+    out
+}
+
+// The set with the clauses of the row added, if `on`.
+pub fn joined_if(set: [u64; 8], table: &[u64], row: usize, on: bool) -> [u64; 8]
+    requires { ⌜ (on ≡ true → row * 8 + 8 ≤ length (now table)) ⌝ }
+    ensures { λ r. ⌜ Joined set (now (table .entry)) row on r ⌝ }
+{
+    if on {
+        return joined(set, table, row);
+    }
+    set
+}
+
+// Whether each clause of the row is in the set. One test at the end is faster than one for each word.
+pub fn covers(table: &[u64], row: usize, set: [u64; 8]) -> bool
+    requires { ⌜ row * 8 + 8 ≤ length (now table) ⌝ }
+    ensures { λ r. ⌜ Covers (now (table .entry)) row (inSet set 0) r ⌝ }
+{
+    let mut lacks = 0u64;
+    let mut k = 0;
+    while k < WORDS {
+        let due = table[row * 8 + k];
+        lacks = lacks | (due ^ (due & set[k]));
+        k += 1;
+    }
+    lacks == 0
+}
+
+// Whether each clause of the row is in the set or in the other table's row. Most trials end at the first word, before the set is joined.
+pub fn covers_with(table: &[u64], row: usize, set: [u64; 8], other: &[u64], at: usize) -> bool
+    requires { ⌜ (row * 8 + 8 ≤ length (now table)) × (at * 8 + 8 ≤ length (now other)) ⌝ }
+    ensures { λ r. ⌜ Covers (now (table .entry)) row (λ c. inSet set 0 c || inSet (now (other .entry)) at c) r ⌝ }
+{
+    let due = table[row * 8];
+    if due & (set[0] | other[at * 8]) != due {
+        return false;
+    }
+    covers(table, row, joined(set, other, at))
+}
+
+// Stores in the row the clauses of the same row of the other table that are not in the set.
+pub fn store_less(to: &mut [u64], table: &[u64], row: usize, set: [u64; 8])
+    requires { ⌜ (row * 8 + 8 ≤ length (now to)) × (row * 8 + 8 ≤ length (now table)) ⌝ }
+    ensures { λ r. ⌜ Less (now (to .entry)) (now (table .entry)) row set (now (to .exit)) ⌝ }
+{
+    let mut k = 0;
+    while k < WORDS {
+        let at = row * 8 + k;
+        to[at] = table[at] ^ (table[at] & set[k]);
+        k += 1;
+    }
+}
+
+// Puts the clause c into the row.
+pub fn add(table: &mut [u64], row: usize, c: usize)
+    requires { ⌜ (row * 8 + 8 ≤ length (now table)) × (c < 512) ⌝ }
+    ensures { λ _. ⌜ Marked (λ r. eqb row r) (now (table .entry)) c (now (table .exit)) ⌝ }
+{
+    let at = row * 8 + c / 64;
+    table[at] = table[at] | (1u64 << (c % 64));
+}
