@@ -2,8 +2,8 @@
 use super::reduce::Reduced;
 use super::reduce::reduce;
 use super::tests::tested;
-use consistency::Answer;
 use clauses::tables::prepare;
+use consistency::Answer;
 ghost use mathlib.Core.Path.{_≡_};
 ghost use mathlib.Core.List.{[], _∷_};
 ghost use Prim.Native.Nat.{_≤_};

@@ -2,9 +2,9 @@
 // unassigned variable: its size, the next unassigned variable, and the clauses that are due. So each variable costs little:
 // the search hands down two words and the trials left, and notes in the plan the values that it found.
 use super::Answer;
-use clauses::evaluation::wide;
 use super::search::packed;
 use super::search::unpacked;
+use clauses::evaluation::wide;
 ghost use mathlib.Core.Path.{_≡_};
 ghost use Prim.Native.Nat.{ℕ, _+_, _-_, _*_, _^_, _<_, _≤_};
 ghost use mathlib.Core.List.{List};

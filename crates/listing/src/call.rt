@@ -1,7 +1,7 @@
 // The listing call on a sheet and lent buffers, whatever these are, and its export to C.
 use children::Node;
-use conflict::calls::Refusal;
 use clauses::tables::prepare;
+use conflict::calls::Refusal;
 use steps::offers::Offered;
 use steps::offers::check_all;
 use steps::run::Ending;
