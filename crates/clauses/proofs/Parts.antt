@@ -1,9 +1,8 @@
 -- One step along the literals of a clause, and along the clauses. Assumes nothing.
-use mathlib.Core.Path.{_≡_, refl, sym, ap, ap₂, _∙_}
+use mathlib.Core.Path.{_≡_, refl, sym, ap, _∙_}
 use mathlib.Core.Bool.{Bool, true, false, _&&_, _||_}
-use mathlib.Core.List.{List, [], _∷_, map}
-use Prim.Native.Nat.{ℕ, suc, _+_, _*_, _/_, _%_, _<_, _≤_}
-use native.Mathlib.Omega.{arith}
+use mathlib.Core.List.{List, map}
+use Prim.Native.Nat.{ℕ, _+_, _*_, _/_, _%_, _<_, _≤_}
 use lib.Dec.{eqb}
 use lib.ListN.{length, getD, take, drop}
 use Rattle.model.specs.Lists.{All}
@@ -11,7 +10,7 @@ use Rattle.model.specs.Sheet.{Literal}
 use Rattle.model.specs.Assignment.{Assignment}
 use Rattle.model.specs.Consistency.{holdsAt, literalFails, clauseFalse, anyFalse}
 use Rattle.theory.specs.Tables.{literals, clauses}
-use Rattle.theory.specs.Search.{anyAt, mentions, satisfiedAt, nth}
+use Rattle.theory.specs.Search.{anyAt, mentions, satisfiedAt}
 use Rattle.theory.proofs.Search.{any-cons}
 use Rattle.theory.proofs.TableClauses.{literalAt, literals-step, literals-end, Along, along-opened, along-end}
 use Rattle.clauses.specs.Bytes.{given, failsAt}
@@ -73,9 +72,3 @@ module _ (a : Assignment) (n : ℕ) (counts lits : List ℕ) (i from : ℕ) (alo
   pub any-end : length counts ≤ i → anyFalse a (drop i (clauses counts lits)) ≡ false
   unfolding anyFalse
   any-end h = ap (anyFalse a) (along-end n counts lits i from along h)
-
--- none is where each by its number is not
-pub any-clear : (a : Assignment) (cs : List (List Literal)) → ((c : ℕ) → c < length cs → clauseFalse a (nth cs c) ≡ false) → anyFalse a cs ≡ false
-unfolding anyFalse
-any-clear a [] h = refl
-any-clear a (d ∷ cs) h = any-cons (clauseFalse a) d cs ∙ ap₂ _||_ (h 0 (omega arith)) (any-clear a cs (λ c l. h (suc c) (omega arith)))

@@ -12,14 +12,14 @@ use lib.ListN.{length, getD, replicate}
 use Rattle.model.specs.Lists.{All}
 use Rattle.model.specs.Sheet.{Literal}
 use Rattle.model.specs.Assignment.{isSome, nibble}
-use Rattle.theory.specs.Search.{nth, satisfiedAt, satisfiedFrom, waits, due}
+use Rattle.theory.specs.Search.{nth, satisfiedAt, due}
 use Rattle.theory.proofs.Search.{waits-step, waits-end, satisfied-step, satisfied-end, satisfied-all}
 use Rattle.clauses.specs.Bytes.{given}
 use Rattle.clauses.specs.Sets.{inSet, inPair, SetIs}
 use Rattle.clauses.proofs.Bits.{bit-zero}
 use Rattle.clauses.proofs.Bytes.{given-at, given-none, given-some}
 use Rattle.clauses.proofs.Callers.{zeros}
-use Rattle.consistency.specs.Given.{Clauses, DueFrom, SetsFrom, Started}
+use Rattle.consistency.specs.Given.{Clauses, SetsFrom, Started}
 use Rattle.consistency.proofs.Bytes.{is-given}
 
 -- a set of nothing

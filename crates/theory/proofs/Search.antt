@@ -265,7 +265,7 @@ any-nth a [] h c l = absurd (omega arith)
 any-nth a (d ∷ cs) h zero l = or-neither (clauseFalse a d) (anyFalse a cs) (sym (any-cons (clauseFalse a) d cs) ∙ h) .0
 any-nth a (d ∷ cs) h (suc c) l = any-nth a cs (or-neither (clauseFalse a d) (anyFalse a cs) (sym (any-cons (clauseFalse a) d cs) ∙ h) .1) c (omega arith)
 
-nth-any : (a : Assignment) (cs : List (List Literal)) → ((c : ℕ) → c < length cs → clauseFalse a (nth cs c) ≡ false) → anyFalse a cs ≡ false
+pub nth-any : (a : Assignment) (cs : List (List Literal)) → ((c : ℕ) → c < length cs → clauseFalse a (nth cs c) ≡ false) → anyFalse a cs ≡ false
 unfolding anyFalse
 nth-any a [] h = refl
 nth-any a (d ∷ cs) h = any-cons (clauseFalse a) d cs ∙ ap₂ _||_ (h 0 (omega arith)) (nth-any a cs (λ c l. h (suc c) (omega arith)))

@@ -1,5 +1,5 @@
 -- `test_rows` meets its contract: the first question is decided by `any_false`, the rest by the search from variable 0 with the sets that `start` makes. Assumes nothing.
-use mathlib.Core.Path.{refl, sym, _∙_}
+use mathlib.Core.Path.{sym, _∙_}
 use mathlib.Core.Bool.{true≢false}
 use native.Mathlib.Omega.{arith}
 use Rattle.consistency.proofs.FirstSets.{none-in-pair}

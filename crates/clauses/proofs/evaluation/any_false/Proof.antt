@@ -7,7 +7,8 @@ use Rattle.model.specs.Consistency.{anyFalse}
 use Rattle.theory.specs.Tables.{clauses}
 use Rattle.theory.proofs.TableClauses.{clauses-length, Along, along-first, along-room, along-below, along-next, along-nth}
 use Rattle.clauses.specs.Bytes.{given}
-use Rattle.clauses.proofs.Parts.{any-step, any-end, any-clear}
+use Rattle.theory.proofs.Search.{nth-any}
+use Rattle.clauses.proofs.Parts.{any-step, any-end}
 use native.Mathlib.Omega.{arith}
 use borrow.Author.Needs.{needs}
 use Rattle.clauses.proofs.evaluation.any_false.Statement.{statement}
@@ -27,7 +28,7 @@ has-all-requires c κs = search needs
 returns : tie.Need-returns Inv-loop μ-loop
 returns c =
     let s = c .before .before .before .before .before in
-    sym (any-clear _ _ (λ k l. s .pre .1 k (c .before .has-all .ensures .all (c .if1 .taken) k (omega (arith, clauses-length (s .args .counts .now) (s .args .lits .now))) refl)))
+    sym (nth-any _ _ (λ k l. s .pre .1 k (c .before .has-all .ensures .all (c .if1 .taken) k (omega (arith, clauses-length (s .args .counts .now) (s .args .lits .now))) refl)))
 
 loop-holds : tie.Need-loop-holds Inv-loop μ-loop
 loop-holds c = let g = c .before .before .before .before .before .pre .0 in (along-first _ _ _ (g .room) (g .below), refl)

@@ -1,5 +1,5 @@
 -- `tables::prepare` meets its contract. The loop: both tables have the clauses before i, whose literals end at `at`. Assumes nothing.
-use mathlib.Core.Path.{_≡_, _∙_}
+use mathlib.Core.Path.{_≡_}
 use Prim.Native.Nat.{_+_, _*_, _-_}
 use lib.ListN.{length}
 use Rattle.theory.proofs.TableClauses.{along-room, along-below}

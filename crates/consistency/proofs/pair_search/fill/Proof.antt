@@ -1,9 +1,9 @@
 -- `pair_search::fill` meets its contract. The loop: the bytes before v are taken over, and those from v on are as they came. Assumes nothing.
 use mathlib.Core.Path.{_≡_, ap, _∙_}
 use mathlib.Core.Logic.{⊎-elim}
-use Prim.Native.Nat.{ℕ, _+_, _-_, _*_, _<_, _≤_}
+use Prim.Native.Nat.{_-_, _≤_}
 use native.Mathlib.Omega.{arith}
-use lib.ListN.{length, getD, length-set}
+use lib.ListN.{length, length-set}
 use Rattle.consistency.proofs.Noted.{Filling, filling-first, filling-past, filling-free, filling-end}
 use Rattle.consistency.proofs.pair_search.fill.Statement.{statement}
 use Rattle.consistency.proofs.pair_search.fill.Tie as tie

@@ -1,5 +1,5 @@
 -- `pair_search::start` meets its contract. The loop, from the last variable down: what is made is the plan from v on. Assumes nothing.
-use mathlib.Core.Path.{_≡_, _∙_}
+use mathlib.Core.Path.{_≡_}
 use Prim.Native.Nat.{_+_, _-_, _≤_}
 use native.Mathlib.Omega.{arith}
 use lib.ListN.{length, set, length-set}
