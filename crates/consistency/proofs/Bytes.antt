@@ -18,10 +18,6 @@ use Rattle.clauses.proofs.Bytes.{given-none, given-some}
 
 -- ---- one byte
 
--- a byte is 16 exactly where nothing is given
-pub none-given : (b : ℕ) → given b ≡ none → b ≡ 16
-none-given b e = elim (ℕ-discrete b 16) [ yes p ↦ p | no d ↦ absurd (let q = given-some b d in let z : _≡_ {A = ℕ} 0 1 = cc in omega arith) ]
-
 pub is-given : (b : ℕ) → isSome (given b) ≡ not (eqb b 16)
 is-given b = elim (ℕ-discrete b 16) [ yes e ↦ rw (given-none b e, eq-eqb b 16 e) | no d ↦ rw (given-some b d, ne-eqb b 16 d) ]
 
