@@ -36,7 +36,7 @@ use Rattle.conflict.proofs.Given.{tabled-ready}
 use Rattle.steps.specs.declared.run.Progress.{Progress}
 use Rattle.steps.specs.declared.run.Ending.{Ending}
 use Rattle.steps.specs.declared.run.Next.{Next as After}
-use Rattle.steps.specs.Run.{Question, Removed, Expands, Steps, NextIs, PutNext}
+use Rattle.steps.specs.Run.{Question, Written, Removed, Expands, Steps, NextIs, PutNext}
 
 -- ---- steps 4 to 7 with a node removed
 
@@ -48,6 +48,22 @@ unresolved p n c (d ∷ store) a e = go (resolves n d) refl (unresolved p n c st
     go : (b : Bool) → resolves n d ≡ b → (firstUnresolved store n ≡ some c → Conflict p c) → Conflict p c
     go true f ih = ih (rw (firstUnresolved, f) at e)
     go false f ih = let h : some d ≡ some c = rw (firstUnresolved, f) at e in let same : d ≡ c = cc in rw same at (a .0)
+
+-- what is written down does not tell of the queue
+queued-written : {q : Question} {store codes costs : List ℕ} {g : Progress} {s : State} → Written q store codes costs g s → (n : ℕ) (nodes : List Assignment)
+    → Written q store codes costs
+    (record { queued = n; stored = g .stored; listed = g .listed; tested = g .tested; learned = g .learned; unkept = g .unkept; trials = g .trials })
+    (record { queue = nodes; store = s .store; listed = s .listed; tested = s .tested; learned = s .learned; unkept = s .unkept; trials = s .trials; struck = s .struck })
+queued-written w n nodes = record {
+  keeps = w .keeps;
+  codes-are = w .codes-are;
+  costs-are = w .costs-are;
+  listed-is = w .listed-is;
+  tested-is = w .tested-is;
+  learned-is = w .learned-is;
+  unkept-is = w .unkept-is;
+  trials-is = w .trials-is;
+}
 
 module _ {q : Question} {limit : ℕ} {queue store codes costs : List ℕ} {g : Progress} {node : Node} (t : Removed q limit queue store codes costs g node) where
   -- what the step's words stand for
@@ -110,16 +126,7 @@ module _ {q : Question} {limit : ℕ} {queue store codes costs : List ℕ} {g : 
         rw (e, putChildren, h .0) (record {
           holds = h .2;
           room = omega (arith, h .1, ltb-false (length queue / 2) (length (t .rest) + length others) (h .0));
-          written = record {
-            keeps = w .keeps;
-            codes-are = w .codes-are;
-            costs-are = w .costs-are;
-            listed-is = w .listed-is;
-            tested-is = w .tested-is;
-            learned-is = w .learned-is;
-            unkept-is = w .unkept-is;
-            trials-is = w .trials-is;
-          };
+          written = queued-written w _ _;
         })
 
     -- step 4
@@ -232,16 +239,7 @@ module _ {d : ℕ} {sizes prices counts lits sat uses vals : List ℕ} {preferre
                 standing = record {
                   holds = taken-out .1;
                   room = omega (arith, t .turn .standing .room);
-                  written = record {
-                    keeps = w .keeps;
-                    codes-are = w .codes-are;
-                    costs-are = w .costs-are;
-                    listed-is = w .listed-is;
-                    tested-is = w .tested-is;
-                    learned-is = w .learned-is;
-                    unkept-is = w .unkept-is;
-                    trials-is = w .trials-is;
-                  };
+                  written = queued-written w (g .queued - 1) (t .state .queue);
                 };
                 codes-room = t .turn .codes-room;
                 costs-room = t .turn .costs-room;

@@ -73,23 +73,16 @@ module _ {q : Question} {limit : ℕ} {queue store codes costs : List ℕ} {g : 
   can-count h = record { tested-less = omega (arith, t .turn .going .kept .tested, written .tested-is, h); learned-less = omega (arith, sum); unkept-less = omega (arith, sum) }
 
   -- there is room for a state more
+  listed-place : (f : List ℕ → ℕ) (buffer lent : List ℕ) → lent ≡ filled (map f (t .state .listed)) buffer → q .wanted ≤ length buffer → g .listed < length lent
+  listed-place f buffer lent e room =
+      let l : length (t .state .listed) ≤ length buffer = omega (arith, t .wanting, room) in
+      omega (arith, written .listed-is, t .wanting, room, written-length f (t .state .listed) buffer lent e l)
+
   pub codes-place : g .listed < length codes
-  codes-place = omega (
-    arith,
-    written .listed-is,
-    t .wanting,
-    t .turn .codes-room,
-    written-length code (t .state .listed) (q .codes) codes (written .codes-are) (omega (arith, t .wanting, t .turn .codes-room)),
-  )
+  codes-place = listed-place code (q .codes) codes (written .codes-are) (t .turn .codes-room)
 
   pub costs-place : g .listed < length costs
-  costs-place = omega (
-    arith,
-    written .listed-is,
-    t .wanting,
-    t .turn .costs-room,
-    written-length (orderOf (q .plant) .figure) (t .state .listed) (q .costs) costs (written .costs-are) (omega (arith, t .wanting, t .turn .costs-room)),
-  )
+  costs-place = listed-place (orderOf (q .plant) .figure) (q .costs) costs (written .costs-are) (t .turn .costs-room)
 
   -- the nodes that are left in the queue are valid
   rest-valid : All (Valid (decisionSizes (q .plant))) (t .rest)
