@@ -85,22 +85,54 @@ static uint32_t ill_formed(const struct tables *t, uint64_t mask, uint64_t value
 
 /* ---- consistency test ---- */
 
-struct search {
-    const struct tables *tables;
-    const struct sets *sets;
-    uint32_t trials, limit;
-    uint8_t values[VARIABLES_MOST];
-    set due[VARIABLES_MOST]; /* clauses whose largest unassigned variable it is */
-};
-
 /* A set of the first 128 clauses. */
 struct pair {
     uint64_t first, second;
 };
 
+/* At an unassigned variable: its size, the next one, and the clauses due. Once
+ * values are found, its value is in place of its size. */
+struct row {
+    size_t size, next;
+    struct pair due;
+};
+
+/* Of the last search from an unassigned variable on that found no values: the
+ * clauses that it went by, which of these were satisfied, and its trials. */
+struct note {
+    struct pair needs, held;
+    uint64_t trials;
+};
+
+/* In place of trials: nothing is noted. */
+static const uint64_t NONE = UINT64_C(1) << 32;
+
+/* The rows and notes of the unassigned variables. */
+struct plan {
+    struct row rows[VARIABLES_MOST];
+    size_t end; /* the number of variables */
+    struct note notes[VARIABLES_MOST];
+};
+
+/* Made once for a run; each test writes what it reads of the last three, and
+ * nothing is cleared in between. */
+struct search {
+    const struct tables *tables;
+    const struct sets *sets;
+    uint32_t trials, limit;
+    uint8_t values[VARIABLES_MOST];
+    struct plan plan;        /* for at most 128 clauses */
+    set due[VARIABLES_MOST]; /* for more: clauses whose largest unassigned variable it is */
+};
+
 static struct pair with_row(struct pair p, const uint64_t *row)
 {
     return (struct pair){p.first | row[0], p.second | row[1]};
+}
+
+static struct pair with_pair(struct pair p, struct pair q)
+{
+    return (struct pair){p.first | q.first, p.second | q.second};
 }
 
 static bool is_in(struct pair p, size_t clause)
@@ -151,30 +183,31 @@ static bool some_clause_is_false(const struct tables *t, const uint8_t *values, 
 
 /* ---- of at most 128 clauses: sets of two words ---- */
 
-/* At an unassigned variable: its size, the next one, and the clauses due. Once
- * values are found, its value is in place of its size. */
-struct row {
-    size_t size, next;
-    struct pair due;
-};
-
-struct plan {
-    struct row rows[VARIABLES_MOST];
-    size_t end; /* the number of variables */
-};
-
 /* What the variables satisfy and leave open, and the first unassigned one. */
 struct start {
     struct pair held, open;
     size_t next;
 };
 
-/* How a search ends, with the trials left. */
-struct outcome {
-    enum answer answer;
-    uint32_t left;
-};
+/* How a search ends and the trials left, in one word, which is below 2^32 where
+ * no values are found: gcc makes slower code of a struct of the two. */
+static uint64_t outcome(enum answer answer, uint32_t left)
+{
+    return (uint64_t)(answer ^ INCONSISTENT) << 32 | left;
+}
 
+static enum answer answer_of(uint64_t word)
+{
+    return (enum answer)(word >> 32 ^ INCONSISTENT);
+}
+
+static uint32_t left_of(uint64_t word)
+{
+    return (uint32_t)word;
+}
+
+/* Makes the rows of the unassigned variables, from the last to the first, with
+ * nothing noted. */
 static struct start make_plan(const struct search *s, struct plan *plan)
 {
     plan->end = s->tables->variables;
@@ -190,37 +223,54 @@ static struct start make_plan(const struct search *s, struct plan *plan)
         row->next = made.next;
         row->due.first = mentioning[0] & ~made.open.first;
         row->due.second = mentioning[1] & ~made.open.second;
+        plan->notes[v].trials = NONE;
         made.open = with_row(made.open, mentioning);
         made.next = v;
     }
     return made;
 }
 
-/* Finds values of the unassigned variables from v on. The set is handed down as
- * two words: gcc would pass a struct of them through memory. */
-static struct outcome descend_pairs(const struct sets *sets, struct plan *plan, uint64_t first,
-                                    uint64_t second, size_t v, uint32_t left)
+/* Whether a search with this set satisfied would go as the noted one, within the
+ * trials left. Where nothing is noted, only the trials are read. */
+static bool is_noted(const struct note *note, uint64_t first, uint64_t second, uint32_t left)
+{
+    return note->trials <= left && (first & note->needs.first) == note->held.first &&
+           (second & note->needs.second) == note->held.second;
+}
+
+/* Finds values of the unassigned variables from v on; where there are none, it
+ * notes what it went by. The set is handed down as two words: gcc would pass a
+ * struct of them through memory. */
+static uint64_t descend_pairs(const struct sets *sets, struct plan *plan, uint64_t first,
+                              uint64_t second, size_t v, uint32_t left)
 {
     if (v == plan->end)
-        return (struct outcome){CONSISTENT, left};
+        return outcome(CONSISTENT, left);
     struct row *row = &plan->rows[v];
+    struct note *note = &plan->notes[v];
+    if (is_noted(note, first, second, left))
+        return outcome(INCONSISTENT, left - (uint32_t)note->trials);
+    struct pair needs = row->due;
     size_t size = row->size;
+    uint32_t rest = left;
     for (size_t x = 0; x < size; x++) {
-        if (left == 0)
-            return (struct outcome){SPENT, 0};
-        left--;
+        if (rest == 0)
+            return outcome(SPENT, 0);
+        rest--;
         const uint64_t *satisfied = sets->satisfied[v][x];
         uint64_t a = first | satisfied[0], b = second | satisfied[1];
         if (row->due.first & ~a || row->due.second & ~b)
             continue;
-        struct outcome rest = descend_pairs(sets, plan, a, b, row->next, left);
-        if (rest.answer != INCONSISTENT) {
+        uint64_t deeper = descend_pairs(sets, plan, a, b, row->next, rest);
+        if (answer_of(deeper) != INCONSISTENT) {
             row->size = x;
-            return rest;
+            return deeper;
         }
-        left = rest.left;
+        rest = left_of(deeper);
+        needs = with_pair(needs, plan->notes[row->next].needs);
     }
-    return (struct outcome){INCONSISTENT, left};
+    *note = (struct note){needs, {needs.first & first, needs.second & second}, left - rest};
+    return outcome(INCONSISTENT, rest);
 }
 
 /* Takes over the values found. */
@@ -233,18 +283,16 @@ static void fill_values(uint8_t *values, const struct plan *plan)
 
 static enum answer test_pairs(struct search *s)
 {
-    struct plan plan;
-    struct start made = make_plan(s, &plan);
-    struct pair clear = {made.held.first | made.open.first, made.held.second | made.open.second};
-    if (some_clause_is_false(s->tables, s->values, clear))
+    struct start made = make_plan(s, &s->plan);
+    if (some_clause_is_false(s->tables, s->values, with_pair(made.held, made.open)))
         return INCONSISTENT;
     uint32_t left = s->limit - s->trials;
-    struct outcome found =
-        descend_pairs(s->sets, &plan, made.held.first, made.held.second, made.next, left);
-    s->trials += left - found.left;
-    if (found.answer == CONSISTENT)
-        fill_values(s->values, &plan);
-    return found.answer;
+    uint64_t found =
+        descend_pairs(s->sets, &s->plan, made.held.first, made.held.second, made.next, left);
+    s->trials += left - left_of(found);
+    if (answer_of(found) == CONSISTENT)
+        fill_values(s->values, &s->plan);
+    return answer_of(found);
 }
 
 /* ---- of any number: sets of eight words ---- */

@@ -33,7 +33,7 @@ min-digit (suc zero) b ha hb f = rw (eqb-true b 1 (f refl))
 min-digit (suc (suc a)) b ha hb f = absurd (omega arith)
 
 -- a bit of `and` is both bits
-bit-and : (a b k : ℕ) → bit (bitAnd a b) k ≡ (bit a k && bit b k)
+pub bit-and : (a b k : ℕ) → bit (bitAnd a b) k ≡ (bit a k && bit b k)
 unfolding bit
 bit-and a b zero = ap (λ (x : ℕ). eqb x 1) (and-mod a b 1) ∙ and-digit (a % 2) (b % 2) (omega arith) (omega arith)
 bit-and a b (suc k) = ap (λ (x : ℕ). bit x k) (and-shr a b 1) ∙ bit-and (a / 2) (b / 2) k

@@ -23,13 +23,14 @@ use Rattle.theory.proofs.Test.{accepted-present, test-consistent, test-inconsis
 use Rattle.theory.proofs.Reduction.{reduce-alone}
 use Rattle.theory.proofs.Words.{well-formed-valid, well-formed-words, valid-words}
 use Rattle.consistency.specs.declared.Answer.{Answer as Ending}
-use Rattle.consistency.specs.Answers.{Ended}
+use Rattle.consistency.specs.Answers.{answerOf}
 use Rattle.consistency.proofs.Endings.{was-consistent, was-inconsistent, was-spent}
 use Rattle.conflict.specs.declared.reduce.Reduced.{Reduced as Answer}
 use Rattle.conflict.specs.declared.calls.Refusal.{Refusal as Whose}
 use Rattle.conflict.specs.declared.calls.ReduceAnswer.{ReduceAnswer}
 use Rattle.conflict.specs.Reduced.{Reduces}
 use Rattle.conflict.specs.Calls.{groundNumber, onAnswer, onPlant, shown, TestSays, worded, reduceOf, ReduceSays, ReduceRight, endingOf, Answers}
+use Rattle.conflict.proofs.Given.{as-ended}
 
 -- ---- the words
 
@@ -117,31 +118,31 @@ module _ (sheet : List ℕ) (mask values limit : ℕ) {minimal : Bool} where
 
 -- ---- the test of an assignment, and the reduction after it
 
-module _ (p : Plant) (limit : ℕ) {minimal : Bool} (a : Assignment) {before after : List ℕ} {e : Ending} (h : Ended (test p limit a 0) before after e) {t : ℕ} where
+module _ (p : Plant) (limit : ℕ) {minimal : Bool} (a : Assignment) {e : Ending} (h : e ≡ answerOf (test p limit a 0)) {t : ℕ} where
   pub answers-none : e ≡ Ending.Consistent t → Answers minimal (ReduceAnswer.None t) (answered (test p limit a 0)) (answered (reduceAlone p limit a))
   unfolding reduceAlone
-  answers-none q = let w = was-consistent _ before after t e h q in record { test = λ _. rw w; reduction = λ _. rw (reduceAlone, w) }
+  answers-none q = let w = was-consistent _ _ _ t e (as-ended h) q in record { test = λ _. rw w; reduction = λ _. rw (reduceAlone, w) }
 
   pub answers-spent : e ≡ Ending.Spent t → Answers minimal (ReduceAnswer.Spent t) (answered (test p limit a 0)) (answered (reduceAlone p limit a))
   unfolding reduceAlone
-  answers-spent q = let w = was-spent _ before after t e h q .0 in record { test = λ _. rw w; reduction = λ _. rw (reduceAlone, w) }
+  answers-spent q = let w = was-spent _ _ _ t e (as-ended h) q .0 in record { test = λ _. rw w; reduction = λ _. rw (reduceAlone, w) }
 
   module _ (q : e ≡ Ending.Inconsistent t) where
     pub answers-whole : minimal ≡ false → {mask values : ℕ} → Answers minimal (ReduceAnswer.Conflict mask values t) (answered (test p limit a 0)) (answered (reduceAlone p limit a))
-    answers-whole f = record { test = λ _. rw (was-inconsistent _ before after t e h q .0); reduction = λ g. absurd (false≢true (sym f ∙ g)) }
+    answers-whole f = record { test = λ _. rw (was-inconsistent _ _ _ t e (as-ended h) q .0); reduction = λ g. absurd (false≢true (sym f ∙ g)) }
 
     module _ (f : minimal ≡ true) (r : Answer) (k : Reduces p (reduce p limit a t) r) where
       pub answers-conflict : {m x u : ℕ} → r ≡ Answer.Conflict m x u → Answers minimal (ReduceAnswer.Conflict m x u) (answered (test p limit a 0)) (answered (reduceAlone p limit a))
       unfolding reduceAlone
       answers-conflict {m} {x} {u} g =
           let k : Reduces p (reduce p limit a t) (Answer.Conflict m x u) = rw g at k in
-          record { test = λ g. absurd (false≢true (sym g ∙ f)); reduction = λ _. rw (reduceAlone, was-inconsistent _ before after t e h q .0, k .2, k .1 .words .mask-is, k .1 .words .values-is) }
+          record { test = λ g. absurd (false≢true (sym g ∙ f)); reduction = λ _. rw (reduceAlone, was-inconsistent _ _ _ t e (as-ended h) q .0, k .2, k .1 .words .mask-is, k .1 .words .values-is) }
 
       pub answers-stopped : {u : ℕ} → r ≡ Answer.Spent u → Answers minimal (ReduceAnswer.Spent u) (answered (test p limit a 0)) (answered (reduceAlone p limit a))
       unfolding reduceAlone
       answers-stopped {u} g =
           let k : reduce p limit a t ≡ Reduced.spent u = rw g at k in
-          record { test = λ g. absurd (false≢true (sym g ∙ f)); reduction = λ _. rw (reduceAlone, was-inconsistent _ before after t e h q .0, k) }
+          record { test = λ g. absurd (false≢true (sym g ∙ f)); reduction = λ _. rw (reduceAlone, was-inconsistent _ _ _ t e (as-ended h) q .0, k) }
 
 -- ---- what is answered is right
 

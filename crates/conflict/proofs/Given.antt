@@ -1,14 +1,15 @@
 -- From the tables of a plant and two words to what the consistency test is given, and from what it answers to the model's test. Assumes nothing.
-use mathlib.Core.Path.{_≡_, ap, _∙_}
+use mathlib.Core.Path.{_≡_, refl, ap, _∙_}
 use mathlib.Core.Option.{Option, none}
-use mathlib.Core.List.{List, _++_, map}
+use mathlib.Core.List.{List, [], _++_, map}
 use Prim.Native.Nat.{ℕ, _-_, _≤_}
 use native.Mathlib.Omega.{arith}
 use native.Mathlib.Decide.{decLt}
-use lib.ListN.{length, getD, replicate, length-drop, length-map, length-append, length-replicate, List·getD-eq-default}
+use lib.ListN.{length, getD, take, drop, replicate, length-drop, length-map, length-append, length-replicate, List·getD-eq-default}
+use lib.Seq.{length-take-le, take-at}
 use Rattle.model.specs.Sheet.{Plant, edition1, decisionSizes}
 use Rattle.model.specs.Assignment.{Assignment, Valid, assignmentOf}
-use Rattle.model.specs.Consistency.{test, overAll}
+use Rattle.model.specs.Consistency.{Tested, test, overAll}
 use Rattle.theory.specs.Plant.{Sized}
 use Rattle.theory.specs.Tables.{clauses, Tabled}
 use Rattle.theory.specs.Words.{Words, byte}
@@ -19,7 +20,7 @@ use Rattle.theory.proofs.Words.{words-hold, assignment-length, assignment-small
 use Rattle.clauses.specs.Bytes.{given}
 use Rattle.clauses.specs.Tables.{Prepared}
 use Rattle.consistency.specs.declared.Answer.{Answer}
-use Rattle.consistency.specs.Answers.{testOver, Ended}
+use Rattle.consistency.specs.Answers.{testOver, answerOf, leaves, Ended}
 use Rattle.consistency.specs.Given.{Given}
 use Rattle.consistency.proofs.Callers.{plant-tables, plant-ended}
 use Rattle.conflict.specs.Given.{Limits, Ready}
@@ -48,9 +49,9 @@ module _ {p : Plant} {d : ℕ} {domains costs counts lits : List ℕ} (t : Table
         | no h ↦ rw (List·getD-eq-default domains 0 {n = v} (omega arith)) (omega arith)
       ]
 
-  -- with the sets made of them, and a byte for each variable, they are ready for the test
-  pub tabled-ready : {sat uses vals : List ℕ} → Prepared (clauses counts lits) sat uses → length vals ≡ length domains → Ready d domains counts lits sat uses vals
-  tabled-ready r e = record { limits = tabled-limits; prepared = r; same = e }
+  -- with the sets made of them, and room for the search, they are ready for the test
+  pub tabled-ready : {sat uses plan : List ℕ} → Prepared (clauses counts lits) sat uses → length plan ≡ 438 → Ready d domains counts lits sat uses plan
+  tabled-ready r l = record { limits = tabled-limits; prepared = r; planned = l }
 
   -- the two words, filled up for the state variables, hold the assignment to all variables
   pub tabled-over : (a : Assignment) {mask values : ℕ} → Words a mask values → Valid (decisionSizes p) a
@@ -61,29 +62,62 @@ module _ {p : Plant} {d : ℕ} {domains costs counts lits : List ℕ} (t : Table
 
 -- ---- what the consistency test is given
 
--- another buffer of the same length serves as well
-pub ready-again : {d : ℕ} {domains counts lits sat uses vals after : List ℕ} → Ready d domains counts lits sat uses vals → length after ≡ length vals → Ready d domains counts lits sat uses after
-ready-again r e = record { limits = r .limits; prepared = r .prepared; same = e ∙ r .same }
+-- a plan of zeros is room for the search
+pub plan-long : length {A = ℕ} (replicate 438 0) ≡ 438
+plan-long = length-replicate {A = ℕ} 438 0
 
-module _ {d : ℕ} {domains counts lits sat uses vals : List ℕ} (r : Ready d domains counts lits sat uses vals) (mask values : ℕ)
-    {filled : List ℕ} (e : filled ≡ map byte (assignmentOf d mask values ++ replicate (length vals - d) none)) where
+-- another plan serves as well
+pub ready-again : {d : ℕ} {domains counts lits sat uses plan after : List ℕ} → Ready d domains counts lits sat uses plan → length after ≡ 438 → Ready d domains counts lits sat uses after
+ready-again r l = record { limits = r .limits; prepared = r .prepared; planned = l }
+
+-- the bytes of the variables are the first of these, and are lent to be filled
+abbrev pub unfilled : List ℕ
+unfilled = replicate 48 16
+
+module _ {d : ℕ} {domains counts lits sat uses plan : List ℕ} (r : Ready d domains counts lits sat uses plan) (mask values : ℕ)
+    {filled : List ℕ} (e : filled ≡ map byte (assignmentOf d mask values ++ replicate (length (take (length domains) unfilled) - d) none)) where
+  held : filled ≡ map byte (assignmentOf d mask values ++ replicate (length domains - d) none)
+  held = rw (length-take-le (length domains) unfilled (r .limits .few)) at e
+
+  count : length (assignmentOf d mask values) ≡ d
+  count = assignment-length d mask values (r .limits .decisions)
+
+  same : length filled ≡ length domains
+  same = ap length held
+      ∙ length-map (assignmentOf d mask values ++ replicate (length domains - d) none) byte
+      ∙ length-append (assignmentOf d mask values) (replicate (length domains - d) none)
+      ∙ (omega (arith, count, length-replicate {A = Option ℕ} (length domains - d) none, r .limits .present))
+
+  -- as many are there to be lent again, and these are the filled ones
+  pub filled-room : length domains ≤ length (filled ++ drop (length domains) unfilled)
+  filled-room = omega (arith, length-append filled (drop (length domains) unfilled), same)
+
+  again : take (length domains) (filled ++ drop (length domains) unfilled) ≡ filled
+  again = take-at filled (drop (length domains) unfilled) (length domains) same
+
   -- the bytes of two words are what it asks for
-  pub ready-given : Given domains counts lits sat uses filled
-  ready-given = record {
-    few = r .limits .few;
-    small = r .limits .small;
-    same = ap length e
-        ∙ length-map (assignmentOf d mask values ++ replicate (length vals - d) none) byte
-        ∙ length-append (assignmentOf d mask values) (replicate (length vals - d) none)
-        ∙ (omega (arith, assignment-length d mask values (r .limits .decisions), length-replicate {A = Option ℕ} (length vals - d) none, r .same, r .limits .present));
-    bytes = rw e (byte-most (assignmentOf d mask values ++ replicate (length vals - d) none) (small-behind (assignmentOf d mask values) (length vals - d) (assignment-small d mask values)));
-    tables = r .limits .tables;
-    ready = r .prepared;
-  }
+  pub ready-given : Given domains counts lits sat uses (take (length domains) (filled ++ drop (length domains) unfilled)) × (length plan ≡ 438)
+  ready-given = rw again (
+    record {
+      few = r .limits .few;
+      small = r .limits .small;
+      same = same;
+      bytes = rw held (byte-most (assignmentOf d mask values ++ replicate (length domains - d) none) (small-behind (assignmentOf d mask values) (length domains - d) (assignment-small d mask values)));
+      tables = r .limits .tables;
+      ready = r .prepared;
+    },
+    r .planned,
+  )
 
   -- and it ends on them as the model's test of the assignment does
-  pub ready-ended : {p : Plant} {costs : List ℕ} → Tabled p d domains costs counts lits → (a : Assignment) → Words a mask values → Valid (decisionSizes p) a
-      → (limit used : ℕ) (after : List ℕ) (q : Answer) → Ended (testOver (clauses counts lits) domains limit used (map given filled)) filled after q → Ended (test p limit a used) (map byte (overAll p a)) after q
+  pub ready-ended : {p : Plant} {costs : List ℕ} → Tabled p d domains costs counts lits → (a : Assignment) → Words a mask values → Valid (decisionSizes p) a → (limit used : ℕ) (after : List ℕ) (q : Answer)
+      → Ended (testOver (clauses counts lits) domains limit used (map given (take (length domains) (filled ++ drop (length domains) unfilled)))) (take (length domains) (filled ++ drop (length domains) unfilled)) after q
+      → q ≡ answerOf (test p limit a used)
   ready-ended {p} t a w v limit used after q h =
-      let o : filled ≡ map byte (overAll p a) = e ∙ rw (r .same, tabled-over t a w v) in
-      rw o at (plant-ended p (t .accepted) domains counts lits (tabled-sizes t) (tabled-clauses t) (t .literal-room) a v filled o limit used after q h)
+      plant-ended p (t .accepted) domains counts lits (tabled-sizes t) (tabled-clauses t) (t .literal-room) a v _ (again ∙ held ∙ rw (tabled-over t a w v)) limit used after q h .answer
+
+-- ---- what it answers
+
+-- as if it had been lent no bytes
+pub as-ended : {e : Tested} {r : Answer} → r ≡ answerOf e → Ended e [] (leaves [] e) r
+as-ended h = record { answer = h; left = refl }

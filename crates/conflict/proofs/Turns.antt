@@ -17,10 +17,11 @@ use Rattle.theory.proofs.ReductionSteps.{reduce-skip, reduce-keep, reduce-lose,
 use Rattle.theory.proofs.Tables.{tabled-count}
 use Rattle.theory.proofs.Words.{words-hold}
 use Rattle.consistency.specs.declared.Answer.{Answer}
-use Rattle.consistency.specs.Answers.{Ended}
+use Rattle.consistency.specs.Answers.{answerOf}
 use Rattle.consistency.proofs.Endings.{was-consistent, was-inconsistent, was-spent}
 use Rattle.conflict.specs.declared.reduce.Reduced.{Reduced}
 use Rattle.conflict.specs.Reduced.{Held, Turned, Reduces}
+use Rattle.conflict.proofs.Given.{as-ended}
 
 -- a variable that is assigned has a value, and one that is not has none
 value-of : (o : Option ℕ) → isSome o ≡ true → (x : ℕ) × (o ≡ some x)
@@ -51,21 +52,21 @@ module _ {p : Plant} {d : ℕ} {domains costs counts lits : List ℕ} (t : Table
       pub turn-free : isSome (getD c v none) ≡ false → Turned p limit v c used (Reduced.Conflict mask values used)
       turn-free e = (c, record { words = w; valid = valid }, λ n. reduce-skip p limit n v c used (no-value (getD c v none) e))
 
-      module _ (e : isSome (getD c v none) ≡ true) {before after : List ℕ} {r : Answer} (ended : Ended (test p limit (set c v none) used) before after r) {u : ℕ} where
+      module _ (e : isSome (getD c v none) ≡ true) {r : Answer} (ended : r ≡ answerOf (test p limit (set c v none) used)) {u : ℕ} where
         pub turn-keep : r ≡ Answer.Consistent u → Turned p limit v c used (Reduced.Conflict mask values u)
         turn-keep q =
             let x = value-of (getD c v none) e in
-            (c, record { words = w; valid = valid }, λ n. reduce-keep p limit n v c used (x .0) (x .1) after u (was-consistent _ before after u r ended q))
+            (c, record { words = w; valid = valid }, λ n. reduce-keep p limit n v c used (x .0) (x .1) _ u (was-consistent _ _ _ u r (as-ended ended) q))
 
         pub turn-lose : {m x : ℕ} → Words (set c v none) m x → r ≡ Answer.Inconsistent u → Turned p limit v c used (Reduced.Conflict m x u)
         turn-lose rest q =
             let x = value-of (getD c v none) e in
-            (set c v none, record { words = rest; valid = rest-valid }, λ n. reduce-lose p limit n v c used (x .0) (x .1) u (was-inconsistent _ before after u r ended q .0))
+            (set c v none, record { words = rest; valid = rest-valid }, λ n. reduce-lose p limit n v c used (x .0) (x .1) u (was-inconsistent _ _ _ u r (as-ended ended) q .0))
 
         pub turn-stop : r ≡ Answer.Spent u → Turned p limit v c used (Reduced.Spent u)
         turn-stop q =
             let x = value-of (getD c v none) e in
-            λ n. reduce-stop p limit n v c used (x .0) (x .1) u (was-spent _ before after u r ended q .0)
+            λ n. reduce-stop p limit n v c used (x .0) (x .1) u (was-spent _ _ _ u r (as-ended ended) q .0)
 
 -- ---- all turns
 

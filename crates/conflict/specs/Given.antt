@@ -17,11 +17,11 @@ pub record Limits (d : ℕ) (sizes counts lits : List ℕ) : Type 0 where
   pub small : (v : ℕ) → getD sizes v 0 ≤ 16
   pub tables : Tables (length sizes) counts lits
 
--- with the sets of clauses that are made of them, and a byte for each variable
-pub record Ready (d : ℕ) (sizes counts lits sat uses vals : List ℕ) : Type 0 where
+-- with the sets of clauses that are made of them, and room for the search
+pub record Ready (d : ℕ) (sizes counts lits sat uses plan : List ℕ) : Type 0 where
   pub limits : Limits d sizes counts lits
   pub prepared : Prepared (clauses counts lits) sat uses
-  pub same : length vals ≡ length sizes
+  pub planned : length plan ≡ 438
 
 -- P holds of each plant that the tables hold
 abbrev pub ForPlant : ℕ → (sizes counts lits : List ℕ) → (Plant → Type 0) → Type 0

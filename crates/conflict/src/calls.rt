@@ -59,13 +59,13 @@ fn conflict_of(
     lits: &[u8],
     sat: &[u64; 6144],
     uses: &[u64],
-    vals: &mut [u8],
+    plan: &mut [u64; 438],
     mask: u64,
     values: u64,
     limit: u32,
     minimal: bool,
 ) -> ReduceAnswer
-    requires { ⌜ Ready d (now sizes) (now counts) (now lits) (now sat) (now uses) (now vals) ⌝ }
+    requires { ⌜ Ready d (now sizes) (now counts) (now lits) (now sat) (now uses) (now plan) ⌝ }
     ensures { λ r. ⌜ ForWords d (now (sizes .entry)) (now (counts .entry)) (now (lits .entry)) mask values (λ p a. Answers minimal r (answered (test p limit a 0)) (answered (reduceAlone p limit a))) ⌝ }
 {
     match tested(
@@ -75,7 +75,7 @@ fn conflict_of(
         lits,
         sat,
         uses,
-        vals,
+        plan,
         mask,
         values,
         0,
@@ -94,7 +94,7 @@ fn conflict_of(
                 lits,
                 sat,
                 uses,
-                vals,
+                plan,
                 mask,
                 values,
                 t,
@@ -127,8 +127,7 @@ fn conflict_tables(
     }
     let mut sat = [0u64; 6144];
     let mut uses = [0u64; 384];
-    let mut vals = [16u8; 48];
-    let n = sizes.len();
+    let mut plan = [0u64; 438];
     prepare(counts, lits, &mut sat, &mut uses);
     conflict_of(
         d,
@@ -137,7 +136,7 @@ fn conflict_tables(
         lits,
         &sat,
         &uses,
-        &mut vals[..n],
+        &mut plan,
         mask,
         values,
         limit,

@@ -1,7 +1,9 @@
 // The reduction of a conflict that is given by its two words.
 use super::tests::tested;
 use consistency::Answer;
+ghost use mathlib.Core.Path.{_≡_};
 ghost use Prim.Native.Nat.{_<_};
+ghost use lib.ListN.{length};
 ghost use Rattle.model.specs.Conflict.{reduce};
 ghost use Rattle.conflict.specs.Given.{Ready, ForWords};
 ghost use Rattle.conflict.specs.Reduced.{Turned, Reduces};
@@ -20,15 +22,16 @@ fn without(
     lits: &[u8],
     sat: &[u64; 6144],
     uses: &[u64],
-    vals: &mut [u8],
+    plan: &mut [u64; 438],
     mask: u64,
     values: u64,
     v: usize,
     used: u32,
     limit: u32,
 ) -> Reduced
-    requires { ⌜ Ready d (now sizes) (now counts) (now lits) (now sat) (now uses) (now vals) × (v < d) ⌝ }
-    ensures { λ r. ⌜ ForWords d (now (sizes .entry)) (now (counts .entry)) (now (lits .entry)) mask values (λ p c. Turned p limit v c used r) ⌝ }
+    requires { ⌜ Ready d (now sizes) (now counts) (now lits) (now sat) (now uses) (now plan) × (v < d) ⌝ }
+    ensures answer { λ r. ⌜ ForWords d (now (sizes .entry)) (now (counts .entry)) (now (lits .entry)) mask values (λ p c. Turned p limit v c used r) ⌝ }
+    ensures long { λ _. ⌜ length (now (plan .exit)) ≡ 438 ⌝ }
 {
     if !words::is_assigned(mask, v) {
         return Reduced::Conflict(mask, values, used);
@@ -41,7 +44,7 @@ fn without(
         lits,
         sat,
         uses,
-        vals,
+        plan,
         rest.mask,
         rest.values,
         used,
@@ -61,21 +64,22 @@ pub fn reduce(
     lits: &[u8],
     sat: &[u64; 6144],
     uses: &[u64],
-    vals: &mut [u8],
+    plan: &mut [u64; 438],
     mask: u64,
     values: u64,
     used: u32,
     limit: u32,
 ) -> Reduced
-    requires { ⌜ Ready d (now sizes) (now counts) (now lits) (now sat) (now uses) (now vals) ⌝ }
-    ensures { λ r. ⌜ ForWords d (now (sizes .entry)) (now (counts .entry)) (now (lits .entry)) mask values (λ p a. Reduces p (reduce p limit a used) r) ⌝ }
+    requires { ⌜ Ready d (now sizes) (now counts) (now lits) (now sat) (now uses) (now plan) ⌝ }
+    ensures answer { λ r. ⌜ ForWords d (now (sizes .entry)) (now (counts .entry)) (now (lits .entry)) mask values (λ p a. Reduces p (reduce p limit a used) r) ⌝ }
+    ensures long { λ _. ⌜ length (now (plan .exit)) ≡ 438 ⌝ }
 {
     let mut m = mask;
     let mut x = values;
     let mut u = used;
     let mut v = 0;
     while v < d {
-        match without(d, sizes, counts, lits, sat, uses, vals, m, x, v, u, limit) {
+        match without(d, sizes, counts, lits, sat, uses, plan, m, x, v, u, limit) {
             Reduced::Spent(t) => {
                 return Reduced::Spent(t);
             }

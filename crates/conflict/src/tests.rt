@@ -6,9 +6,9 @@ ghost use mathlib.Core.Option.{none};
 ghost use Prim.Native.Nat.{_-_, _≤_};
 ghost use lib.ListN.{length, getD, replicate};
 ghost use Rattle.model.specs.Assignment.{assignmentOf};
-ghost use Rattle.model.specs.Consistency.{test, overAll};
+ghost use Rattle.model.specs.Consistency.{test};
 ghost use Rattle.theory.specs.Words.{byte};
-ghost use Rattle.consistency.specs.Answers.{Ended};
+ghost use Rattle.consistency.specs.Answers.{answerOf};
 ghost use Rattle.conflict.specs.Given.{Ready, ForWords};
 
 // The byte of the variable v, of which the first d are decision variables.
@@ -34,7 +34,7 @@ fn fill(vals: &mut [u8], d: usize, mask: u64, values: u64)
     }
 }
 
-// The test of the assignment that the two words hold, with `used` trials made before; where it is consistent, `vals` holds the values found.
+// The test of the assignment that the two words hold, with `used` trials made before. The plan is room for the search of a test, whatever is in it.
 pub fn tested(
     d: usize,
     sizes: &[u8],
@@ -42,15 +42,28 @@ pub fn tested(
     lits: &[u8],
     sat: &[u64; 6144],
     uses: &[u64],
-    vals: &mut [u8],
+    plan: &mut [u64; 438],
     mask: u64,
     values: u64,
     used: u32,
     limit: u32,
 ) -> Answer
-    requires { ⌜ Ready d (now sizes) (now counts) (now lits) (now sat) (now uses) (now vals) ⌝ }
-    ensures { λ r. ⌜ ForWords d (now (sizes .entry)) (now (counts .entry)) (now (lits .entry)) mask values (λ p a. Ended (test p limit a used) (map byte (overAll p a)) (now (vals .exit)) r) ⌝ }
+    requires { ⌜ Ready d (now sizes) (now counts) (now lits) (now sat) (now uses) (now plan) ⌝ }
+    ensures answer { λ r. ⌜ ForWords d (now (sizes .entry)) (now (counts .entry)) (now (lits .entry)) mask values (λ p a. r ≡ answerOf (test p limit a used)) ⌝ }
+    ensures long { λ _. ⌜ length (now (plan .exit)) ≡ 438 ⌝ }
 {
-    fill(vals, d, mask, values);
-    consistency::test(sizes, counts, lits, sat, uses, vals, used, limit)
+    let mut vals = [16u8; 48];
+    let n = sizes.len();
+    fill(&mut vals[..n], d, mask, values);
+    consistency::test(
+        sizes,
+        counts,
+        lits,
+        sat,
+        uses,
+        &mut vals[..n],
+        plan,
+        used,
+        limit,
+    )
 }

@@ -92,6 +92,13 @@ not-failed r h n e = go (r / 4294967296) (omega arith) e
     go (suc zero) l e = absurd (let z : _≡_ {A = ℕ} 0 1 = cc in omega arith)
     go (suc (suc k)) l e = absurd (let z : _≡_ {A = ℕ} 0 1 = cc in omega arith)
 
+-- one that found values, or was stopped, did not fail
+pub not-consistent : (t n : ℕ) (r : Answer) → r ≡ Consistent t → r ≡ Inconsistent n → ⊥
+not-consistent t n r e q = let z : _≡_ {A = ℕ} 0 1 = cc in omega arith
+
+pub not-spent : (t n : ℕ) (r : Answer) → r ≡ Spent t → r ≡ Inconsistent n → ⊥
+not-spent t n r e q = let z : _≡_ {A = ℕ} 0 1 = cc in omega arith
+
 -- ---- trials left
 
 module _ (left n : ℕ) (r : Answer) where

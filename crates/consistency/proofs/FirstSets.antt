@@ -54,7 +54,7 @@ module _ (m : ℕ) (vals sat uses : List ℕ) where
   module _ (most : m ≤ 512) (v : ℕ) (few : length vals ≤ 48) (inside : v < length vals) (small : getD vals v 0 ≤ 16)
       (inDue inDue′ : ℕ → ℕ → Bool) (inHeld inOpen inHeld′ inOpen′ : ℕ → Bool)
       (here-due : getD vals v 0 ≡ 16 → (c : ℕ) → c < m → inDue′ v c ≡ (inSet uses v c && not (inOpen c)))
-      (rest-due : (u c : ℕ) → c < m → (u ≡ v → ⊥) → inDue′ u c ≡ inDue u c)
+      (rest-due : (u c : ℕ) → u < length vals → c < m → (u ≡ v → ⊥) → inDue′ u c ≡ inDue u c)
       (opens : (c : ℕ) → c < m → inOpen′ c ≡ (inOpen c || eqb (getD vals v 0) 16 && inSet uses v c))
       (helds : (c : ℕ) → c < m → inHeld′ c ≡ (inHeld c || not (eqb (getD vals v 0) 16) && inSet sat (v * 16 + getD vals v 0) c)) where
     pub from-next : (cs : List (List Literal)) → Clauses cs vals sat uses → SetsFrom m cs vals inDue inHeld inOpen (v + 1) → SetsFrom m cs vals inDue′ inHeld′ inOpen′ v
@@ -94,7 +94,7 @@ module _ (m : ℕ) (vals sat uses : List ℕ) where
         due-at u h l e (yes p) = rw p record {
           has = λ c b. here-due (is-16 (rw p at e)) c b ∙ ap₂ (λ (x y : Bool). x && not y) (k .ready .mentioned v (omega arith) .has c (omega arith)) (f .waiting .has c b);
         }
-        due-at u h l e (no p) = record { has = λ c b. rest-due u c b p ∙ f .dues .has u (omega arith) l e .has c b }
+        due-at u h l e (no p) = record { has = λ c b. rest-due u c l b p ∙ f .dues .has u (omega arith) l e .has c b }
 
 -- at 0 they are whole
 pub from-end : (m : ℕ) (vals : List ℕ) (cs : List (List Literal)) (inDue : ℕ → ℕ → Bool) (inHeld inOpen : ℕ → Bool) → SetsFrom m cs vals inDue inHeld inOpen 0 → Started m cs vals inDue inHeld

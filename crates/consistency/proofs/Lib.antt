@@ -8,3 +8,4 @@ pub mod Pairs
 pub mod Plans
 pub mod Turns
 pub mod Whole
+pub mod Notes

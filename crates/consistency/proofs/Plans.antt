@@ -1,6 +1,6 @@
 -- The plan of a search, made row by row from the last variable down. Assumes nothing.
 use mathlib.Core.Path.{_≡_, refl, sym, ap, _∙_}
-use mathlib.Core.Bool.{or-false}
+use mathlib.Core.Bool.{Bool, or-false}
 use mathlib.Core.List.{List}
 use Prim.Native.Nat.{ℕ, _+_, _*_, _/_, _%_, _<_, _≤_}
 use native.Mathlib.Omega.{arith}
@@ -10,7 +10,7 @@ use lib.Bits.{bitAnd, bitOr, bitXor}
 use lib.ListN.{length, getD, set, length-set}
 use lib.Seq.{getD-set-same, getD-set-other}
 use Rattle.clauses.specs.Sets.{bit, inPair}
-use Rattle.consistency.specs.Given.{Lent, NextFree, inPlan, Rows, Planned}
+use Rattle.consistency.specs.Given.{Lent, NextFree, inPlan, trialsThen, Rows, Planned}
 use Rattle.consistency.proofs.FirstSets.{none-in-pair, from-first, from-next}
 use Rattle.consistency.proofs.Pairs.{pair-or, plan-less}
 
@@ -31,6 +31,45 @@ free-past vals v n d f = record { after = omega (arith, f .after); upto = f .upt
 -- from the end on there is none
 pub free-end : (vals : List ℕ) → NextFree vals (length vals) (length vals)
 free-end vals = record { after = omega arith; upto = omega arith; set = λ u a b. absurd (omega arith); free = λ l. absurd (omega arith) }
+
+-- a byte changes nothing where it is not looked at
+pub free-same : (vals vals′ : List ℕ) (from n : ℕ) → length vals′ ≡ length vals → ((u : ℕ) → from ≤ u → u < length vals → getD vals′ u 0 ≡ getD vals u 0) → NextFree vals from n → NextFree vals′ from n
+free-same vals vals′ from n e same f = record {
+  after = f .after;
+  upto = omega (arith, f .upto);
+  set = λ u a b q. f .set u a b (sym (same u a (omega (arith, f .upto))) ∙ q);
+  free = λ l. same n (f .after) (omega arith) ∙ f .free (omega arith);
+}
+
+-- ---- nothing is noted at v
+
+abbrev pub blanked : List ℕ → ℕ → List ℕ
+blanked plan v = set plan (193 + v * 5 + 4) 4294967296
+
+pub planned-blanked : (sizes vals sat uses plan : List ℕ) (n v : ℕ) (inHeld inOpen : ℕ → Bool) → length vals ≤ 48 → v < 48
+    → Planned sizes vals sat uses plan n inHeld inOpen (v + 1) → Planned sizes vals sat uses (blanked plan v) n inHeld inOpen (v + 1) × (trialsThen (blanked plan v) v ≡ 4294967296)
+unfolding inPlan
+planned-blanked sizes vals sat uses plan n v inHeld inOpen few below p = (
+  record {
+    next = p .next;
+    rows = record {
+      size = λ u h l e. other (u * 4) (omega arith) ∙ p .rows .size u h l e;
+      next = λ u h l e. rw (other (u * 4 + 1) (omega arith)) (p .rows .next u h l e);
+    };
+    ends = other 192 (omega arith) ∙ p .ends;
+    long = simp length-set (p .long);
+    sets = λ cs k. let f = p .sets cs k in record {
+      dues = record { has = λ u h l e. record { has = λ c b. ap (λ (w : ℕ). bit w (c % 64)) (other (u * 4 + 2 + c / 64) (omega arith)) ∙ f .dues .has u h l e .has c b } };
+      holds = f .holds;
+      waiting = f .waiting;
+    };
+    blank = λ u h l. getD-set-other plan (193 + v * 5 + 4) (193 + u * 5 + 4) 4294967296 0 (λ e. omega arith) ∙ p .blank u h l;
+  },
+  getD-set-same plan (193 + v * 5 + 4) 4294967296 0 (omega (arith, p .long)),
+)
+  where
+    other : (k : ℕ) → k < 193 → getD (blanked plan v) k 0 ≡ getD plan k 0
+    other k h = getD-set-other plan (193 + v * 5 + 4) k 4294967296 0 (λ e. omega arith)
 
 -- ---- a row written
 
@@ -71,8 +110,13 @@ module _ (plan : List ℕ) (v z n a b : ℕ) where
       getD-set-other three (v * 4 + 3) (u * 4 + k) b 0 (λ e. omega arith) ∙ getD-set-other two (v * 4 + 2) (u * 4 + k) a 0 (λ e. omega arith)
       ∙ getD-set-other one (v * 4 + 1) (u * 4 + k) n 0 (λ e. omega arith) ∙ getD-set-other plan (v * 4) (u * 4 + k) z 0 (λ e. omega arith)
 
+  pub written-behind : (k : ℕ) → v < 48 → 192 ≤ k → getD written k 0 ≡ getD plan k 0
+  written-behind k h l =
+      getD-set-other three (v * 4 + 3) k b 0 (λ e. omega arith) ∙ getD-set-other two (v * 4 + 2) k a 0 (λ e. omega arith)
+      ∙ getD-set-other one (v * 4 + 1) k n 0 (λ e. omega arith) ∙ getD-set-other plan (v * 4) k z 0 (λ e. omega arith)
+
   pub written-last : v < 48 → getD written 192 0 ≡ getD plan 192 0
-  written-last h = written-other 48 0 (λ e. omega arith) (omega arith)
+  written-last h = written-behind 192 h (omega arith)
 
   -- and so are the sets in them
   pub plan-other : (u c : ℕ) → c < 128 → (u ≡ v → ⊥) → inPlan written u c ≡ inPlan plan u c
@@ -104,14 +148,18 @@ rows-past sizes vals plan v d t = record { size = λ u h l e. t .size u (after u
 
 -- ---- one variable more
 
-module _ (sizes vals sat uses plan : List ℕ) (n h1 h2 o1 o2 v : ℕ) (lent : Lent 193 vals sat uses plan) (inside : v < length vals)
-    (p : Planned sizes vals sat uses plan n (inPair h1 h2) (inPair o1 o2) (v + 1)) where
+module _ (sizes vals sat uses plan : List ℕ) (n h1 h2 o1 o2 v : ℕ) (lent : Lent 438 vals sat uses plan) (inside : v < length vals)
+    (p : Planned sizes vals sat uses plan n (inPair h1 h2) (inPair o1 o2) (v + 1)) (none : trialsThen plan v ≡ 4294967296) where
+  -- nothing is noted from v on
+  blank-from : (u : ℕ) → v ≤ u → u < length vals → trialsThen plan u ≡ 4294967296
+  blank-from u h l = elim (ℕ-discrete u v) [ yes q ↦ rw q none | no q ↦ p .blank u (omega arith) l ]
+
   -- an unassigned one: in its row the clauses that mention it and are not yet open, and these are open too
   pub planned-free : (z a b : ℕ) → z ≡ getD sizes v 0
       → a ≡ bitXor (getD uses (v * 8) 0) (bitAnd (getD uses (v * 8) 0) o1) → b ≡ bitXor (getD uses (v * 8 + 1) 0) (bitAnd (getD uses (v * 8 + 1) 0) o2) → getD vals v 0 ≡ 16
       → Planned sizes vals sat uses (written plan v z n a b) v (inPair h1 h2) (inPair (bitOr o1 (getD uses (v * 8) 0)) (bitOr o2 (getD uses (v * 8 + 1) 0))) v
   planned-free z a b q i j e =
-      let fits : v * 4 + 4 ≤ length plan = omega (arith, lent .few, lent .long) in
+      let fits : v * 4 + 4 ≤ length plan = omega (arith, lent .few, p .long) in
       let row = written-here plan v z n a b fits in
       record {
         next = free-here vals v inside e;
@@ -119,9 +167,10 @@ module _ (sizes vals sat uses plan : List ℕ) (n h1 h2 o1 o2 v : ℕ) (lent : L
         ends = written-last plan v z n a b (omega (arith, lent .few)) ∙ p .ends;
         long = simp length-set (p .long);
         sets = λ cs k. from-next 128 vals sat uses (omega arith) v (lent .few) inside (lent .bytes v) _ _ _ _ (inPair h1 h2) _
-            (λ e c h. plan-less o1 o2 (written plan v z n a b) uses v c h (row .2 ∙ i) (row .3 ∙ j)) (plan-other plan v z n a b)
+            (λ e c h. plan-less o1 o2 (written plan v z n a b) uses v c h (row .2 ∙ i) (row .3 ∙ j)) (λ u c l. plan-other plan v z n a b u c)
             (λ c h. pair-or o1 o2 uses v c h ∙ sym (rw (eq-eqb (getD vals v 0) 16 e)))
             (λ c h. sym (rw (eq-eqb (getD vals v 0) 16 e) (or-false (inPair h1 h2 c)))) cs k (p .sets cs k);
+        blank = λ u h l. written-behind plan v z n a b (193 + u * 5 + 4) (omega (arith, lent .few)) (omega arith) ∙ blank-from u h l;
       }
 
   -- an assigned one: the clauses that it satisfies are added
@@ -133,17 +182,19 @@ module _ (sizes vals sat uses plan : List ℕ) (n h1 h2 o1 o2 v : ℕ) (lent : L
     ends = p .ends;
     long = p .long;
     sets = λ cs k. from-next 128 vals sat uses (omega arith) v (lent .few) inside (lent .bytes v) _ _ _ _ _ (inPair o1 o2)
-        (λ e. absurd (d e)) (λ u c h d. refl)
+        (λ e. absurd (d e)) (λ u c l h d. refl)
         (λ c h. sym (rw (ne-eqb (getD vals v 0) 16 d) (or-false (inPair o1 o2 c))))
         (λ c h. pair-or h1 h2 sat (v * 16 + getD vals v 0) c h ∙ sym (rw (ne-eqb (getD vals v 0) 16 d))) cs k (p .sets cs k);
+    blank = blank-from;
   }
 
 -- from the end on there is nothing
-pub planned-end : (sizes vals sat uses plan : List ℕ) → getD plan 192 0 ≡ length vals → 193 ≤ length plan → Planned sizes vals sat uses plan (length vals) (inPair 0 0) (inPair 0 0) (length vals)
+pub planned-end : (sizes vals sat uses plan : List ℕ) → getD plan 192 0 ≡ length vals → length plan ≡ 438 → Planned sizes vals sat uses plan (length vals) (inPair 0 0) (inPair 0 0) (length vals)
 planned-end sizes vals sat uses plan e l = record {
   next = free-end vals;
   rows = record { size = λ u h l. absurd (omega arith); next = λ u h l. absurd (omega arith) };
   ends = e;
   long = l;
   sets = λ cs k. from-first 128 vals sat uses cs (inPlan plan) (inPair 0 0) none-in-pair k;
+  blank = λ u h l. absurd (omega arith);
 }

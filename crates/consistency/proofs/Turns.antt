@@ -27,9 +27,9 @@ use Rattle.consistency.proofs.Bytes.{given-length, given-set, filled-va
 
 -- ---- at the variable v
 
-module _ (m : ℕ) (sizes : List ℕ) (inSat inDue : ℕ → ℕ → Bool) (vals : List ℕ) (v : ℕ) (room : Bytes sizes vals v) where
+module _ (m : ℕ) (Known : List (List Literal) → Type 0) (sizes : List ℕ) (inSat inDue : ℕ → ℕ → Bool) (vals : List ℕ) (v : ℕ) (room : Bytes sizes vals v) where
   -- behind the last variable all are assigned
-  all-set : v ≡ length sizes → (inHeld : ℕ → Bool) (used limit : ℕ) → Searches m sizes inSat inDue vals inHeld v used limit vals (Consistent used)
+  all-set : v ≡ length sizes → (inHeld : ℕ → Bool) (used limit : ℕ) → Searches m Known sizes inSat inDue vals inHeld v used limit vals (Consistent used)
   unfolding explore
   all-set e inHeld used limit cs s =
       let z : length sizes - v ≡ 0 = omega arith in
@@ -49,12 +49,13 @@ module _ (m : ℕ) (sizes : List ℕ) (inSat inDue : ℕ → ℕ → Bool) (vals
 
     -- a variable with a value is passed over
     pub passed : (getD vals v 0 ≡ 16 → ⊥) → (inHeld : ℕ → Bool) (used limit : ℕ) (after : List ℕ) (r : Answer)
-        → Searches m sizes inSat inDue vals inHeld (v + 1) used limit after r → Searches m sizes inSat inDue vals inHeld v used limit after r
+        → Searches m Known sizes inSat inDue vals inHeld (v + 1) used limit after r → Searches m Known sizes inSat inDue vals inHeld v used limit after r
     passed has inHeld used limit after r deep cs s =
         let is : getD (map given vals) v none ≡ some (getD vals v 0) = here ∙ given-some (getD vals v 0) has in
         moved (explore cs limit sizes (length sizes - v) v used (map given vals)) (explore cs limit sizes (length sizes - (v + 1)) (v + 1) used (map given vals)) vals after r
         (rw more (hop-skip cs limit sizes (length sizes - (v + 1)) v used (map given vals) (getD vals v 0) is))
         (deep cs record {
+          known = s .known;
           many = s .many;
           satisfies = s .satisfies;
           dues = record { has = λ u h. s .dues .has u (omega arith) };
@@ -65,33 +66,33 @@ module _ (m : ℕ) (sizes : List ℕ) (inSat inDue : ℕ → ℕ → Bool) (vals
 
 -- ---- from `from` on to the next unassigned variable v
 
-module _ (m : ℕ) (sizes : List ℕ) (inSat inDue : ℕ → ℕ → Bool) (vals : List ℕ) (from v : ℕ) (room : Bytes sizes vals from) (next : NextFree vals from v) where
+module _ (m : ℕ) (Known : List (List Literal) → Type 0) (sizes : List ℕ) (inSat inDue : ℕ → ℕ → Bool) (vals : List ℕ) (from v : ℕ) (room : Bytes sizes vals from) (next : NextFree vals from v) where
   pub room-at : Bytes sizes vals v
   room-at = record { upto = omega (arith, next .upto, room .same); few = room .few; small = room .small; same = room .same }
 
   -- the variables between have values
   pub passed-over : (inHeld : ℕ → Bool) (used limit : ℕ) (after : List ℕ) (r : Answer)
-      → Searches m sizes inSat inDue vals inHeld v used limit after r → Searches m sizes inSat inDue vals inHeld from used limit after r
+      → Searches m Known sizes inSat inDue vals inHeld v used limit after r → Searches m Known sizes inSat inDue vals inHeld from used limit after r
   passed-over inHeld used limit after r deep =
       let e : from + (v - from) ≡ v = omega (arith, next .after) in
       go (v - from) from room (omega (arith, next .upto, room .same)) (λ u a b. next .set u a (omega arith)) (rw e deep)
     where
       go : (n w : ℕ) → Bytes sizes vals w → w + n ≤ length sizes → ((u : ℕ) → w ≤ u → u < w + n → getD vals u 0 ≡ 16 → ⊥)
-          → Searches m sizes inSat inDue vals inHeld (w + n) used limit after r → Searches m sizes inSat inDue vals inHeld w used limit after r
+          → Searches m Known sizes inSat inDue vals inHeld (w + n) used limit after r → Searches m Known sizes inSat inDue vals inHeld w used limit after r
       go zero w room h has deep = let e : w + 0 ≡ w = omega arith in rw e at deep
       go (suc n) w room h has deep =
           let e : w + suc n ≡ w + 1 + n = omega arith in
           let lt : w < length sizes = omega arith in
-          passed m sizes inSat inDue vals w room lt (has w (omega arith) (omega arith)) inHeld used limit after r
-          (go n (w + 1) (room-next m sizes inSat inDue vals w room lt) (omega arith) (λ u a b. has u (omega arith) (omega arith)) (rw e at deep))
+          passed m Known sizes inSat inDue vals w room lt (has w (omega arith) (omega arith)) inHeld used limit after r
+          (go n (w + 1) (room-next m Known sizes inSat inDue vals w room lt) (omega arith) (λ u a b. has u (omega arith) (omega arith)) (rw e at deep))
 
   -- behind them no variable is left
-  pub none-left : v ≡ length sizes → (inHeld : ℕ → Bool) (used limit : ℕ) (r : Answer) → r ≡ Consistent used → Searches m sizes inSat inDue vals inHeld from used limit vals r
-  none-left e inHeld used limit r q = passed-over inHeld used limit vals r (rw q (all-set m sizes inSat inDue vals v room-at e inHeld used limit))
+  pub none-left : v ≡ length sizes → (inHeld : ℕ → Bool) (used limit : ℕ) (r : Answer) → r ≡ Consistent used → Searches m Known sizes inSat inDue vals inHeld from used limit vals r
+  none-left e inHeld used limit r q = passed-over inHeld used limit vals r (rw q (all-set m Known sizes inSat inDue vals v room-at e inHeld used limit))
 
 -- ---- the loop over the values of v
 
-module _ (m : ℕ) (sizes : List ℕ) (inSat inDue : ℕ → ℕ → Bool) (vals₀ : List ℕ) (inHeld : ℕ → Bool) (from v used limit size : ℕ) where
+module _ (m : ℕ) (Known : List (List Literal) → Type 0) (sizes : List ℕ) (inSat inDue : ℕ → ℕ → Bool) (vals₀ : List ℕ) (inHeld : ℕ → Bool) (from v used limit size : ℕ) where
   -- the assignment where the loop begins, and what the model says of it from v on, and of another from the next variable on
   abbrev a₀ : Assignment
   a₀ = map given vals₀
@@ -110,9 +111,9 @@ module _ (m : ℕ) (sizes : List ℕ) (inSat inDue : ℕ → ℕ → Bool) (vals
     pub sized : size ≡ getD sizes v 0
     pub upto : x ≤ size
     pub long : length vals ≡ length vals₀
-    pub over : (after : List ℕ) (r : Answer) → Searches m sizes inSat inDue vals₀ inHeld v used limit after r → Searches m sizes inSat inDue vals₀ inHeld from used limit after r
-    pub back : (cs : List (List Literal)) → Stands m cs inSat inDue vals₀ inHeld v → set vals v 16 ≡ vals₀
-    pub says : (cs : List (List Literal)) → Stands m cs inSat inDue vals₀ inHeld v → Says cs ≡ tryValues cs limit (deeper cs) v a₀ (size - x) x u
+    pub over : (after : List ℕ) (r : Answer) → Searches m Known sizes inSat inDue vals₀ inHeld v used limit after r → Searches m Known sizes inSat inDue vals₀ inHeld from used limit after r
+    pub back : (cs : List (List Literal)) → Stands m Known cs inSat inDue vals₀ inHeld v → set vals v 16 ≡ vals₀
+    pub says : (cs : List (List Literal)) → Stands m Known cs inSat inDue vals₀ inHeld v → Says cs ≡ tryValues cs limit (deeper cs) v a₀ (size - x) x u
 
   -- the first turn
   pub turn-first : Bytes sizes vals₀ from → NextFree vals₀ from v → (v ≡ length sizes → ⊥) → size ≡ getD sizes v 0 → Turn vals₀ used 0
@@ -123,16 +124,16 @@ module _ (m : ℕ) (sizes : List ℕ) (inSat inDue : ℕ → ℕ → Bool) (vals
     sized = sized;
     upto = omega arith;
     long = refl;
-    over = passed-over m sizes inSat inDue vals₀ from v start next inHeld used limit;
+    over = passed-over m Known sizes inSat inDue vals₀ from v start next inHeld used limit;
     back = λ cs s. ap (set vals₀ v) (sym free) ∙ set-getD vals₀ v 0;
     says = λ cs s.
         let z : size - 0 ≡ getD sizes v 0 = omega arith in
-        rw (more m sizes inSat inDue vals₀ v room lt, z)
-        (hop-try cs limit sizes (length sizes - (v + 1)) v used a₀ (here m sizes inSat inDue vals₀ v room lt ∙ given-none (getD vals₀ v 0) free));
+        rw (more m Known sizes inSat inDue vals₀ v room lt, z)
+        (hop-try cs limit sizes (length sizes - (v + 1)) v used a₀ (here m Known sizes inSat inDue vals₀ v room lt ∙ given-none (getD vals₀ v 0) free));
   }
     where
       room : Bytes sizes vals₀ v
-      room = room-at m sizes inSat inDue vals₀ from v start next
+      room = room-at m Known sizes inSat inDue vals₀ from v start next
 
       lt : v < length sizes
       lt = omega (arith, next .upto, start .same)
@@ -142,7 +143,7 @@ module _ (m : ℕ) (sizes : List ℕ) (inSat inDue : ℕ → ℕ → Bool) (vals
 
   module _ (vals : List ℕ) (u x : ℕ) (t : Turn vals u x) where
     -- every value was tried
-    pub turn-end : size ≤ x → (r : Answer) → r ≡ Inconsistent u → Searches m sizes inSat inDue vals₀ inHeld from used limit (set vals v 16) r
+    pub turn-end : size ≤ x → (r : Answer) → r ≡ Inconsistent u → Searches m Known sizes inSat inDue vals₀ inHeld from used limit (set vals v 16) r
     unfolding tryValues
     turn-end h r e =
         let z : size - x ≡ 0 = omega arith in
@@ -153,7 +154,7 @@ module _ (m : ℕ) (sizes : List ℕ) (inSat inDue : ℕ → ℕ → Bool) (vals
       left = omega arith
 
       -- no trial is left
-      pub turn-stop : limit ≤ u → (r : Answer) → r ≡ Spent u → Searches m sizes inSat inDue vals₀ inHeld from used limit (set vals v 16) r
+      pub turn-stop : limit ≤ u → (r : Answer) → r ≡ Spent u → Searches m Known sizes inSat inDue vals₀ inHeld from used limit (set vals v 16) r
       turn-stop h r e =
           t .over (set vals v 16) r
           (λ cs s. rw e (as-spent (Says cs) vals₀ (set vals v 16) u (t .says cs s ∙ rw left (turn-spent cs limit (deeper cs) v a₀ (size - (x + 1)) x u h)) (t .back cs s)))
@@ -175,7 +176,7 @@ module _ (m : ℕ) (sizes : List ℕ) (inSat inDue : ℕ → ℕ → Bool) (vals
 
       -- what the sets say after it
       module _ (ul : u < limit) (row : ℕ) (r : Bool) (at-row : row ≡ v * 16 + x)
-          (covers : Within m (inDue v) (λ c. inHeld c || inSat row c) r) (cs : List (List Literal)) (s : Stands m cs inSat inDue vals₀ inHeld v) where
+          (covers : Within m (inDue v) (λ c. inHeld c || inSat row c) r) (cs : List (List Literal)) (s : Stands m Known cs inSat inDue vals₀ inHeld v) where
         placed : map given (set vals v x) ≡ a
         placed =
             ap (map given) (sym (ap (λ (l : List ℕ). set l v x) (sym (t .back cs s)) ∙ set-set vals v 16 x))
@@ -185,7 +186,7 @@ module _ (m : ℕ) (sizes : List ℕ) (inSat inDue : ℕ → ℕ → Bool) (vals
         inside₀ = omega (arith, given-length vals₀, t .room .same, t .below)
 
         free₀ : getD a₀ v none ≡ none
-        free₀ = here m sizes inSat inDue vals₀ v (t .room) (t .below) ∙ given-none (getD vals₀ v 0) (t .free)
+        free₀ = here m Known sizes inSat inDue vals₀ v (t .room) (t .below) ∙ given-none (getD vals₀ v 0) (t .free)
 
         holds-now : (c : ℕ) → c < m → (inHeld c || inSat row c) ≡ satisfied a (nth cs c)
         holds-now c h =
@@ -208,8 +209,9 @@ module _ (m : ℕ) (sizes : List ℕ) (inSat inDue : ℕ → ℕ → Bool) (vals
             go false q = absurd (true≢false (sym (covers .only (λ c b i. holds-now c b ∙ trial-satisfied cs a₀ v x inside₀ free₀ (s .filled) q c (sym (dues .has c b) ∙ i))) ∙ e))
 
         -- where it passes, the search stands at the next variable
-        stands-set : r ≡ true → (inMore : ℕ → Bool) → ((c : ℕ) → c < m → inMore c ≡ (inHeld c || inSat row c)) → Stands m cs inSat inDue (set vals v x) inMore (v + 1)
+        stands-set : r ≡ true → (inMore : ℕ → Bool) → ((c : ℕ) → c < m → inMore c ≡ (inHeld c || inSat row c)) → Stands m Known cs inSat inDue (set vals v x) inMore (v + 1)
         stands-set e inMore joins = record {
+          known = s .known;
           many = s .many;
           satisfies = s .satisfies;
           dues = record { has = λ w h l f. rw placed (next w h l (rw placed at f)) };
@@ -240,7 +242,7 @@ module _ (m : ℕ) (sizes : List ℕ) (inSat inDue : ℕ → ℕ → Bool) (vals
 
       -- on to the next value, with the assignment and the trials as they are now
       again : (vals′ : List ℕ) (u′ : ℕ) → length vals′ ≡ length (set vals v x)
-          → ((cs : List (List Literal)) → Stands m cs inSat inDue vals₀ inHeld v → (vals′ ≡ set vals v x) × (Says cs ≡ tryValues cs limit (deeper cs) v a₀ (size - (x + 1)) (x + 1) u′))
+          → ((cs : List (List Literal)) → Stands m Known cs inSat inDue vals₀ inHeld v → (vals′ ≡ set vals v x) × (Says cs ≡ tryValues cs limit (deeper cs) v a₀ (size - (x + 1)) (x + 1) u′))
           → Turn vals′ u′ (x + 1)
       again vals′ u′ p k = record {
         room = t .room;
@@ -261,8 +263,8 @@ module _ (m : ℕ) (sizes : List ℕ) (inSat inDue : ℕ → ℕ → Bool) (vals
 
         -- the test passed, and the search from the next variable on ended
         module _ (passes : r ≡ true) (inMore : ℕ → Bool) (joins : (c : ℕ) → c < m → inMore c ≡ (inHeld c || inSat row c)) (after : List ℕ) (b : Answer) (n : ℕ)
-            (deep : Searches m sizes inSat inDue (set vals v x) inMore (v + 1) (u + 1) limit after b) where
-          module _ (cs : List (List Literal)) (s : Stands m cs inSat inDue vals₀ inHeld v) where
+            (deep : Searches m Known sizes inSat inDue (set vals v x) inMore (v + 1) (u + 1) limit after b) where
+          module _ (cs : List (List Literal)) (s : Stands m Known cs inSat inDue vals₀ inHeld v) where
             ended : Ended (deeper cs (u + 1) (map given (set vals v x))) (set vals v x) after b
             ended = deep cs (stands-set ul row r at-row covers cs s passes inMore joins)
 
@@ -288,10 +290,10 @@ module _ (m : ℕ) (sizes : List ℕ) (inSat inDue : ℕ → ℕ → Bool) (vals
                 let e = was-inconsistent (deeper cs (u + 1) (map given (set vals v x))) (set vals v x) after n b ended q in
                 (e .1, says-deeper (inconsistent n) (e .0))
 
-          pub deep-found : b ≡ Consistent n → (a : Answer) → a ≡ Consistent n → Searches m sizes inSat inDue vals₀ inHeld from used limit after a
+          pub deep-found : b ≡ Consistent n → (a : Answer) → a ≡ Consistent n → Searches m Known sizes inSat inDue vals₀ inHeld from used limit after a
           deep-found q a e = t .over after a (λ cs s. rw e (found cs s q))
 
-          pub deep-stop : b ≡ Spent n → (a : Answer) → a ≡ Spent n → Searches m sizes inSat inDue vals₀ inHeld from used limit (set after v 16) a
+          pub deep-stop : b ≡ Spent n → (a : Answer) → a ≡ Spent n → Searches m Known sizes inSat inDue vals₀ inHeld from used limit (set after v 16) a
           deep-stop q a e = t .over (set after v 16) a (λ cs s. rw e (stopped cs s q))
 
           pub deep-again : b ≡ Inconsistent n → length after ≡ length (set vals v x) → (vals′ : List ℕ) (u′ : ℕ) → vals′ ≡ after → u′ ≡ n → Turn vals′ u′ (x + 1)

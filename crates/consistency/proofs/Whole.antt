@@ -7,6 +7,7 @@ use native.Mathlib.Omega.{arith}
 use native.Mathlib.Decide.{decLt}
 use lib.Bits.{bitOr}
 use lib.ListN.{length}
+use Rattle.model.specs.Sheet.{Literal}
 use Rattle.model.specs.Consistency.{clauseFalse, anyFalse, explore}
 use Rattle.theory.specs.Tables.{clauses}
 use Rattle.theory.specs.Search.{nth}
@@ -19,7 +20,7 @@ use Rattle.clauses.proofs.Pairs.{pair-past}
 use Rattle.consistency.specs.declared.Answer.{Answer}
 use Rattle.consistency.specs.declared.Answer.the-variants.{Inconsistent}
 use Rattle.consistency.specs.Answers.{testOver, Ended}
-use Rattle.consistency.specs.Given.{Given, Lent, Starts, Bytes, Searches, inPlan, Planned, PlanFor, Searchable}
+use Rattle.consistency.specs.Given.{Given, Lent, Starts, Bytes, Searches, inPlan, Planned, PlanFor, Searchable, Knows}
 use Rattle.consistency.proofs.Endings.{as-inconsistent, moved}
 use Rattle.consistency.proofs.FirstSets.{from-end}
 use Rattle.consistency.proofs.Pairs.{pair-join}
@@ -40,6 +41,10 @@ module _ (sizes counts lits sat uses vals : List ℕ) (g : Given sizes counts li
     long = omega arith;
   }
 
+  -- and so is the plan
+  pub lent-plan : (plan : List ℕ) → length plan ≡ 438 → Lent 438 vals sat uses plan
+  lent-plan plan e = record { few = lent-first plan .few; bytes = g .bytes; sat-long = g .ready .sat-long; uses-long = g .ready .uses-long; long = omega arith }
+
   -- the search has its bytes
   pub bytes-first : Bytes sizes vals 0
   bytes-first = record { upto = omega arith; few = g .few; small = g .small; same = g .same }
@@ -53,16 +58,17 @@ module _ (sizes counts lits sat uses vals : List ℕ) (g : Given sizes counts li
     -- none is: the search from variable 0 decides
     pub searched : (m : ℕ) → length counts ≤ m → m ≤ 512 → anyFalse (map given vals) (clauses counts lits) ≡ false
         → (inDue : ℕ → ℕ → Bool) (inHeld : ℕ → Bool) (after : List ℕ) (r : Answer)
-        → Starts m vals sat uses inDue inHeld → Searches m sizes (inSet sat) inDue vals inHeld 0 used limit after r
+        → {Known : List (List Literal) → Type 0} → Known (clauses counts lits) → Starts m vals sat uses inDue inHeld → Searches m Known sizes (inSet sat) inDue vals inHeld 0 used limit after r
         → Ended (testOver (clauses counts lits) sizes limit used (map given vals)) vals after r
     unfolding testOver
-    searched m few most e inDue inHeld after r start deep =
+    searched m few most e inDue inHeld after r known start deep =
         let cs = clauses counts lits in
         let z : length sizes - 0 ≡ length sizes = omega arith in
         let s = start cs record { below = tables-vals .below; ready = g .ready } in
         moved (testOver cs sizes limit used (map given vals)) (explore cs limit sizes (length sizes - 0) 0 used (map given vals)) vals after r
         (rw (testOver, e, z))
         (deep cs record {
+          known = known;
           many = omega (arith, clauses-length counts lits);
           satisfies = λ u x h l. record { has = λ c b. g .ready .satisfies u x h l .has c (omega arith) };
           dues = s .dues;
@@ -100,8 +106,8 @@ module _ (sizes counts lits sat uses vals : List ℕ) (g : Given sizes counts li
     searchable-first = record { sizes = sizes; vals = vals; plans = plan-first; long = p .long }
 
     -- and what it says there decides
-    pub planned-searched : (limit used : ℕ) → anyFalse (map given vals) (clauses counts lits) ≡ false → (after : List ℕ) (r : Answer)
-        → Searches 128 sizes (inSet sat) (inPlan plan) vals inHeld first used limit after r → Ended (testOver (clauses counts lits) sizes limit used (map given vals)) vals after r
-    planned-searched limit used e after r deep = searched limit used 128 few (omega arith) e (inPlan plan) inHeld after r
+    pub planned-searched : Knows sizes sat plan (clauses counts lits) → (limit used : ℕ) → anyFalse (map given vals) (clauses counts lits) ≡ false → (after : List ℕ) (r : Answer)
+        → Searches 128 (Knows sizes sat plan) sizes (inSet sat) (inPlan plan) vals inHeld first used limit after r → Ended (testOver (clauses counts lits) sizes limit used (map given vals)) vals after r
+    planned-searched k limit used e after r deep = searched limit used 128 few (omega arith) e (inPlan plan) inHeld after r k
         (λ cs k. from-end 128 vals cs (inPlan plan) inHeld (inPair open1 open2) (p .sets cs k))
-        (passed-over 128 sizes (inSet sat) (inPlan plan) vals 0 first bytes-first (p .next) inHeld used limit after r deep)
+        (passed-over 128 _ sizes (inSet sat) (inPlan plan) vals 0 first bytes-first (p .next) inHeld used limit after r deep)

@@ -10,6 +10,7 @@ mod search;
 use clauses::evaluation::any_false;
 ghost use Rattle.theory.specs.Tables.{clauses};
 ghost use mathlib.Core.List.{map};
+ghost use mathlib.Core.Path.{_≡_};
 ghost use Prim.Native.Nat.{_≤_};
 ghost use lib.ListN.{length};
 ghost use Rattle.clauses.specs.Bytes.{given};
@@ -31,19 +32,20 @@ fn test_pairs(
     sat: &[u64; 6144],
     uses: &[u64],
     vals: &mut [u8],
+    plan: &mut [u64; 438],
     used: u32,
     limit: u32,
 ) -> Answer
-    requires { ⌜ Given (now sizes) (now counts) (now lits) (now sat) (now uses) (now vals) × (length (now counts) ≤ 128) ⌝ }
-    ensures { λ r. ⌜ Ended (testOver (clauses (now (counts .entry)) (now (lits .entry))) (now (sizes .entry)) limit used (map given (now (vals .entry)))) (now (vals .entry)) (now (vals .exit)) r ⌝ }
+    requires { ⌜ Given (now sizes) (now counts) (now lits) (now sat) (now uses) (now vals) × (length (now plan) ≡ 438) × (length (now counts) ≤ 128) ⌝ }
+    ensures ended { λ r. ⌜ Ended (testOver (clauses (now (counts .entry)) (now (lits .entry))) (now (sizes .entry)) limit used (map given (now (vals .entry)))) (now (vals .entry)) (now (vals .exit)) r ⌝ }
+    ensures long { λ _. ⌜ length (now (plan .exit)) ≡ 438 ⌝ }
 {
-    let mut plan = [0u64; 193];
-    let s = pair_search::start(sizes, vals, sat, uses, &mut plan);
+    let s = pair_search::start(sizes, vals, sat, uses, plan);
     if any_false(counts, lits, vals, s.held1 | s.open1, s.held2 | s.open2) {
         return Answer::Inconsistent(used);
     }
-    let answer = pair_search::search(sat, &mut plan, s.held1, s.held2, s.next, used, limit);
-    pair_search::take_found(vals, &plan, answer)
+    let answer = pair_search::search(sat, plan, s.held1, s.held2, s.next, used, limit);
+    pair_search::take_found(vals, plan, answer)
 }
 
 // The test with sets of eight words.
@@ -68,7 +70,8 @@ fn test_rows(
     search::search(sizes, sat, &last, vals, held, 0, used, limit)
 }
 
-// The test of an assignment to all variables, with `used` trials made before; where it is consistent, `vals` holds the values found.
+// The test of an assignment to all variables, with `used` trials made before; where it is consistent, `vals` holds the values
+// found. The plan is room for the search, whatever is in it.
 pub fn test(
     sizes: &[u8],
     counts: &[u8],
@@ -76,14 +79,16 @@ pub fn test(
     sat: &[u64; 6144],
     uses: &[u64],
     vals: &mut [u8],
+    plan: &mut [u64; 438],
     used: u32,
     limit: u32,
 ) -> Answer
-    requires { ⌜ Given (now sizes) (now counts) (now lits) (now sat) (now uses) (now vals) ⌝ }
-    ensures { λ r. ⌜ Ended (testOver (clauses (now (counts .entry)) (now (lits .entry))) (now (sizes .entry)) limit used (map given (now (vals .entry)))) (now (vals .entry)) (now (vals .exit)) r ⌝ }
+    requires { ⌜ Given (now sizes) (now counts) (now lits) (now sat) (now uses) (now vals) × (length (now plan) ≡ 438) ⌝ }
+    ensures ended { λ r. ⌜ Ended (testOver (clauses (now (counts .entry)) (now (lits .entry))) (now (sizes .entry)) limit used (map given (now (vals .entry)))) (now (vals .entry)) (now (vals .exit)) r ⌝ }
+    ensures long { λ _. ⌜ length (now (plan .exit)) ≡ 438 ⌝ }
 {
     if counts.len() <= 128 {
-        return test_pairs(sizes, counts, lits, sat, uses, vals, used, limit);
+        return test_pairs(sizes, counts, lits, sat, uses, vals, plan, used, limit);
     }
     test_rows(sizes, counts, lits, sat, uses, vals, used, limit)
 }

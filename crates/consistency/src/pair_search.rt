@@ -1,6 +1,8 @@
 // The search on a plant of at most 128 clauses: a set is two words, and a plan made for the test has four words for each
 // unassigned variable: its size, the next unassigned variable, and the clauses that are due. So each variable costs little:
-// the search hands down two words and the trials left, and notes in the plan the values that it found.
+// the search hands down two words and the trials left, and notes in the plan the values that it found. Where it finds none
+// from a variable on, it notes in five words more which clauses it went by, which of these were satisfied, and how many trials
+// it took: where it comes to the variable again with the same ones satisfied, it would find none by as many trials.
 use super::Answer;
 use super::search::packed;
 use super::search::unpacked;
@@ -8,10 +10,14 @@ use clauses::evaluation::wide;
 ghost use mathlib.Core.Path.{_≡_};
 ghost use Prim.Native.Nat.{ℕ, _+_, _-_, _*_, _^_, _<_, _≤_};
 ghost use mathlib.Core.List.{List};
+ghost use lib.Bits.{bitAnd};
 ghost use lib.ListN.{length};
 ghost use Rattle.clauses.specs.Sets.{inSet, inPair, Within};
 ghost use Rattle.consistency.specs.Answers.{answerIn, told, trialsIn, filledFrom, afterwards};
-ghost use Rattle.consistency.specs.Given.{Lent, inPlan, Planned, PlanFor, Searchable, Searches, Finds, Restored};
+ghost use Rattle.consistency.specs.Given.{Lent, inPlan, Planned, PlanFor, Searchable, Knows, Searches, Found, Recalled, noted};
+
+// In place of trials: nothing is noted.
+const NONE: u64 = 4294967296;
 
 // What is made of the variables from one on: the clauses that they satisfy, the clauses that one of them leaves open, and the first unassigned one.
 pub struct Sets {
@@ -23,11 +29,12 @@ pub struct Sets {
 }
 
 // Takes in the variable v, after those behind it.
-fn taken_in(s: Sets, sizes: &[u8], vals: &[u8], sat: &[u64; 6144], uses: &[u64], plan: &mut [u64; 193], v: usize) -> Sets
-    requires { ⌜ Lent 193 (now vals) (now sat) (now uses) (now plan) × (v < length (now vals)) × (length (now vals) ≡ length (now sizes)) ⌝ }
+fn taken_in(s: Sets, sizes: &[u8], vals: &[u8], sat: &[u64; 6144], uses: &[u64], plan: &mut [u64; 438], v: usize) -> Sets
+    requires { ⌜ Lent 438 (now vals) (now sat) (now uses) (now plan) × (v < length (now vals)) × (length (now vals) ≡ length (now sizes)) ⌝ }
     ensures { λ r. ⌜ (Planned (now (sizes .entry)) (now (vals .entry)) (now (sat .entry)) (now (uses .entry)) (now (plan .entry)) (s .next) (inPair (s .held1) (s .held2)) (inPair (s .open1) (s .open2)) (v + 1)
         → Planned (now (sizes .entry)) (now (vals .entry)) (now (sat .entry)) (now (uses .entry)) (now (plan .exit)) (r .next) (inPair (r .held1) (r .held2)) (inPair (r .open1) (r .open2)) v) ⌝ }
 {
+    plan[193 + v * 5 + 4] = NONE;
     let a = vals[v];
     if a == 16 {
         let first = uses[v * 8];
@@ -55,8 +62,8 @@ fn taken_in(s: Sets, sizes: &[u8], vals: &[u8], sat: &[u64; 6144], uses: &[u64],
 }
 
 // Makes the plan, from the last variable to the first.
-pub fn start(sizes: &[u8], vals: &[u8], sat: &[u64; 6144], uses: &[u64], plan: &mut [u64; 193]) -> Sets
-    requires { ⌜ Lent 193 (now vals) (now sat) (now uses) (now plan) × (length (now vals) ≡ length (now sizes)) ⌝ }
+pub fn start(sizes: &[u8], vals: &[u8], sat: &[u64; 6144], uses: &[u64], plan: &mut [u64; 438]) -> Sets
+    requires { ⌜ Lent 438 (now vals) (now sat) (now uses) (now plan) × (length (now vals) ≡ length (now sizes)) × (length (now plan) ≡ 438) ⌝ }
     ensures { λ r. ⌜ Planned (now (sizes .entry)) (now (vals .entry)) (now (sat .entry)) (now (uses .entry)) (now (plan .exit)) (r .next) (inPair (r .held1) (r .held2)) (inPair (r .open1) (r .open2)) 0 ⌝ }
 {
     let mut v = vals.len();
@@ -88,17 +95,54 @@ fn covered(plan: &[u64], v: usize, first: u64, second: u64) -> bool
     more & second == more
 }
 
+// The trials by which the search found no values from v on when the clauses that it went by were satisfied as now, or NONE.
+fn recall(plan: &[u64; 438], v: usize, first: u64, second: u64) -> u64
+    requires { ⌜ v < 48 ⌝ }
+    ensures { λ r. ⌜ Recalled (now (plan .entry)) v first second r ⌝ }
+{
+    let at = 193 + v * 5;
+    let trials = plan[at + 4];
+    if trials == NONE {
+        return NONE;
+    }
+    if plan[at] & first != plan[at + 2] {
+        return NONE;
+    }
+    if plan[at + 1] & second != plan[at + 3] {
+        return NONE;
+    }
+    trials
+}
+
+// Notes that the search found no values from v on, by so many trials, going by the clauses of the first two words.
+fn note(plan: &mut [u64; 438], v: usize, needs1: u64, needs2: u64, first: u64, second: u64, trials: u32)
+    requires { ⌜ v < 48 ⌝ }
+    ensures { λ _. ⌜ now (plan .exit) ≡ noted (now (plan .entry)) v needs1 needs2 (bitAnd needs1 first) (bitAnd needs2 second) trials ⌝ }
+{
+    let at = 193 + v * 5;
+    plan[at] = needs1;
+    plan[at + 1] = needs2;
+    plan[at + 2] = needs1 & first;
+    plan[at + 3] = needs2 & second;
+    plan[at + 4] = trials as u64;
+}
+
 // Goes through the unassigned variables from v on, with so many trials left. A number from 2^32 on says that it did not fail.
-fn descend(sat: &[u64; 6144], plan: &mut [u64; 193], first: u64, second: u64, v: usize, left: u32) -> u64
+fn descend(sat: &[u64; 6144], plan: &mut [u64; 438], first: u64, second: u64, v: usize, left: u32) -> u64
     requires { ⌜ Searchable (now plan) v ⌝ }
-    ensures { λ r. ⌜ Finds (now (sat .entry)) (now (plan .entry)) (inPair first second) v left (now (plan .exit)) (answerIn r)
-        × Restored (now (plan .entry)) (now (plan .exit)) (answerIn r) × (trialsIn (answerIn r) ≤ left) × (length (now (plan .exit)) ≡ length (now (plan .entry))) ⌝ }
+    ensures { λ r. ⌜ Found (now (sat .entry)) (now (plan .entry)) (inPair first second) v left (now (plan .exit)) (answerIn r) ⌝ }
 {
     if v as u64 == plan[192] {
         return packed(Answer::Consistent(left));
     }
+    let known = recall(plan, v, first, second);
+    if known < left as u64 {
+        return packed(Answer::Inconsistent(left - known as u32));
+    }
     let size = plan[v * 4];
     let next = plan[v * 4 + 1] as usize;
+    let mut needs1 = plan[v * 4 + 2];
+    let mut needs2 = plan[v * 4 + 3];
     let mut rest = left;
     let mut x = 0;
     while x < size {
@@ -116,9 +160,12 @@ fn descend(sat: &[u64; 6144], plan: &mut [u64; 193], first: u64, second: u64, v:
                 return r;
             }
             rest = r as u32;
+            needs1 = needs1 | plan[193 + next * 5];
+            needs2 = needs2 | plan[193 + next * 5 + 1];
         }
         x += 1;
     }
+    note(plan, v, needs1, needs2, first, second, left - rest);
     packed(Answer::Inconsistent(rest))
 }
 
@@ -142,10 +189,11 @@ fn with_trials_made(a: Answer, used: u32, left: u32) -> Answer
 }
 
 // Goes through the unassigned variables from v on.
-pub fn search(sat: &[u64; 6144], plan: &mut [u64; 193], first: u64, second: u64, v: usize, used: u32, limit: u32) -> Answer
+pub fn search(sat: &[u64; 6144], plan: &mut [u64; 438], first: u64, second: u64, v: usize, used: u32, limit: u32) -> Answer
     requires { ⌜ Searchable (now plan) v ⌝ }
-    ensures { λ r. ⌜ ((sizes vals : List ℕ) → PlanFor sizes vals (now (plan .entry)) v
-        → Searches 128 sizes (inSet (now (sat .entry))) (inPlan (now (plan .entry))) vals (inPair first second) v used limit (afterwards vals (now (plan .exit)) r) r) ⌝ }
+    ensures finds { λ r. ⌜ ((sizes vals : List ℕ) → PlanFor sizes vals (now (plan .entry)) v
+        → Searches 128 (Knows sizes (now (sat .entry)) (now (plan .entry))) sizes (inSet (now (sat .entry))) (inPlan (now (plan .entry))) vals (inPair first second) v used limit (afterwards vals (now (plan .exit)) r) r) ⌝ }
+    ensures long { λ _. ⌜ length (now (plan .exit)) ≡ length (now (plan .entry)) ⌝ }
 {
     let left = trials_left(used, limit);
     let a = unpacked(descend(sat, plan, first, second, v, left));
@@ -153,7 +201,7 @@ pub fn search(sat: &[u64; 6144], plan: &mut [u64; 193], first: u64, second: u64,
 }
 
 // Takes over the values that the plan notes for the unassigned variables.
-fn fill(vals: &mut [u8], plan: &[u64; 193])
+fn fill(vals: &mut [u8], plan: &[u64; 438])
     requires { ⌜ length (now vals) ≤ 48 ⌝ }
     ensures { λ r. ⌜ now (vals .exit) ≡ filledFrom (now (vals .entry)) (now (plan .entry)) 0 ⌝ }
 {
@@ -167,7 +215,7 @@ fn fill(vals: &mut [u8], plan: &[u64; 193])
 }
 
 // Takes them over if the answer is that there are values.
-pub fn take_found(vals: &mut [u8], plan: &[u64; 193], a: Answer) -> Answer
+pub fn take_found(vals: &mut [u8], plan: &[u64; 438], a: Answer) -> Answer
     requires { ⌜ length (now vals) ≤ 48 ⌝ }
     ensures { λ r. ⌜ (r ≡ a) × (now (vals .exit) ≡ afterwards (now (vals .entry)) (now (plan .entry)) a) ⌝ }
 {

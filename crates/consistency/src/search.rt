@@ -10,7 +10,7 @@ ghost use Prim.Native.Nat.{_≤_};
 ghost use lib.ListN.{length};
 ghost use Rattle.clauses.specs.Sets.{inSet};
 ghost use Rattle.consistency.specs.Answers.{answerIn};
-ghost use Rattle.consistency.specs.Given.{Lent, Starts, Room, NextFree, Searches};
+ghost use Rattle.consistency.specs.Given.{Lent, Starts, Room, NextFree, Any, Searches};
 
 // Stores in each row of `last` the clauses that are due at its variable, and returns those that are satisfied.
 pub fn start(vals: &[u8], sat: &[u64], uses: &[u64], last: &mut [u64]) -> [u64; 8]
@@ -82,7 +82,7 @@ fn descend(
     limit: u32,
 ) -> u64
     requires { ⌜ Room (now sizes) (now sat) (now last) (now vals) from ⌝ }
-    ensures { λ r. ⌜ Searches 512 (now (sizes .entry)) (inSet (now (sat .entry))) (inSet (now (last .entry))) (now (vals .entry)) (inSet held 0) from used limit (now (vals .exit)) (answerIn r) ⌝ }
+    ensures { λ r. ⌜ Searches 512 Any (now (sizes .entry)) (inSet (now (sat .entry))) (inSet (now (last .entry))) (now (vals .entry)) (inSet held 0) from used limit (now (vals .exit)) (answerIn r) ⌝ }
 {
     let v = next_free(vals, from);
     if v == sizes.len() {
@@ -132,7 +132,7 @@ pub fn search(
     limit: u32,
 ) -> Answer
     requires { ⌜ Room (now sizes) (now sat) (now last) (now vals) v ⌝ }
-    ensures { λ r. ⌜ Searches 512 (now (sizes .entry)) (inSet (now (sat .entry))) (inSet (now (last .entry))) (now (vals .entry)) (inSet held 0) v used limit (now (vals .exit)) r ⌝ }
+    ensures { λ r. ⌜ Searches 512 Any (now (sizes .entry)) (inSet (now (sat .entry))) (inSet (now (last .entry))) (now (vals .entry)) (inSet held 0) v used limit (now (vals .exit)) r ⌝ }
 {
     unpacked(descend(sizes, sat, last, vals, held, v, used, limit))
 }

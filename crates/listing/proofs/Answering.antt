@@ -32,9 +32,9 @@ use Rattle.listing.specs.Calls.{question, buffers, Room, Lists, Finishes
 -- ---- over decoded tables
 
 -- a plant's tables and buffers with room are what steps 1 to 7 are given
-abbrev pub lists-of : {p : Plant} {d : ℕ} {sizes prices counts lits sat uses vals : List ℕ} {preferred k held : ℕ} {b : Buffers} → Tabled p d sizes prices counts lits → Prepared (clauses counts lits) sat uses
-    → length vals ≡ length sizes → preferred ≡ code (orderOf p .preferred) → Room k held b → Lists d sizes prices counts lits sat uses vals preferred k held b
-lists-of {p = p} t s v e r = record { plant = p; tables = record { tabled = t; prepared = s; bytes = v; preferred-is = e }; room = r }
+abbrev pub lists-of : {p : Plant} {d : ℕ} {sizes prices counts lits sat uses plan : List ℕ} {preferred k held : ℕ} {b : Buffers} → Tabled p d sizes prices counts lits → Prepared (clauses counts lits) sat uses
+    → length plan ≡ 438 → preferred ≡ code (orderOf p .preferred) → Room k held b → Lists d sizes prices counts lits sat uses plan preferred k held b
+lists-of {p = p} t s l e r = record { plant = p; tables = record { tabled = t; prepared = s; planned = l; preferred-is = e }; room = r }
 
 -- the store has room for the conflicts that it keeps at the end
 pub finished-room : {q : Question} {store codes costs : List ℕ} {f : Finished} {n : Next} → FinishedAs q store codes costs f n → 2 * f .progress .stored ≤ length store

@@ -83,13 +83,13 @@ start-written k codes costs queued s = record {
   trials-is = refl;
 }
 
-module _ {d : ℕ} {sizes prices counts lits sat uses vals : List ℕ} {preferred k held : ℕ} {codes costs queue store : List ℕ}
-    (t : Lists d sizes prices counts lits sat uses vals preferred k held (buffers codes costs queue store)) where
-  -- what the tables give still holds with other buffers of the same lengths
-  abbrev pub lists-again : {vals′ store′ : List ℕ} → length vals′ ≡ length vals → Lists d sizes prices counts lits sat uses vals′ preferred k 0 (buffers codes costs queue store′)
-  lists-again e = record {
+module _ {d : ℕ} {sizes prices counts lits sat uses plan : List ℕ} {preferred k held : ℕ} {codes costs queue store : List ℕ}
+    (t : Lists d sizes prices counts lits sat uses plan preferred k held (buffers codes costs queue store)) where
+  -- what the tables give still holds with another plan and another store
+  abbrev pub lists-again : {plan′ store′ : List ℕ} → length plan′ ≡ 438 → Lists d sizes prices counts lits sat uses plan′ preferred k 0 (buffers codes costs queue store′)
+  lists-again l = record {
     plant = t .plant;
-    tables = record { tabled = t .tables .tabled; prepared = t .tables .prepared; bytes = e ∙ t .tables .bytes; preferred-is = t .tables .preferred-is };
+    tables = record { tabled = t .tables .tabled; prepared = t .tables .prepared; planned = l; preferred-is = t .tables .preferred-is };
     room = record { codes-room = t .room .codes-room; costs-room = t .room .costs-room; queue-room = t .room .queue-room; store-room = omega arith };
   }
 
@@ -109,7 +109,7 @@ module _ {d : ℕ} {sizes prices counts lits sat uses vals : List ℕ} {preferre
         }
 
     abbrev pub start-steps : (queue′ : List ℕ) → length queue′ ≡ length queue → Holds (orderOf (t .plant)) 1 queue′ (enqueue (orderOf (t .plant)) (unassigned (decisionSizes (t .plant))) [])
-        → Steps d sizes prices counts lits sat uses vals preferred k limit codes costs queue′ store′ (first 1 stored used)
+        → Steps d sizes prices counts lits sat uses plan preferred k limit codes costs queue′ store′ (first 1 stored used)
     start-steps queue′ e h = record {
       question = question (t .plant) k codes costs;
       state = start (decisionSizes (t .plant)) survivors used;
@@ -125,8 +125,8 @@ start-enough ss survivors used = omega arith
 
 -- ---- step 1
 
-module _ {d : ℕ} {sizes prices counts lits sat uses vals : List ℕ} {preferred k held : ℕ} {codes costs queue store : List ℕ}
-    (t : Lists d sizes prices counts lits sat uses vals preferred k held (buffers codes costs queue store)) (limit : ℕ) where
+module _ {d : ℕ} {sizes prices counts lits sat uses plan : List ℕ} {preferred k held : ℕ} {codes costs queue store : List ℕ}
+    (t : Lists d sizes prices counts lits sat uses plan preferred k held (buffers codes costs queue store)) (limit : ℕ) where
   -- how step 1 ends
   abbrev offered : Checked
   offered = checkOffers (t .plant) limit [] (offersOf held store) 0

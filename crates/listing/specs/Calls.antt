@@ -33,9 +33,9 @@ pub record Room (k held : ℕ) (b : Buffers) : Type 0 where
   pub store-room : 2 * held ≤ length (b .store)
 
 -- before step 1
-pub record Lists (d : ℕ) (sizes prices counts lits sat uses vals : List ℕ) (preferred k held : ℕ) (b : Buffers) : Type 0 where
+pub record Lists (d : ℕ) (sizes prices counts lits sat uses plan : List ℕ) (preferred k held : ℕ) (b : Buffers) : Type 0 where
   pub plant : Plant
-  pub tables : Tables plant d sizes prices counts lits sat uses vals preferred
+  pub tables : Tables plant d sizes prices counts lits sat uses plan preferred
   pub room : Room k held b
 
 -- the store keeps the survivors of step 1, which are conflicts, and the trials are within the limit

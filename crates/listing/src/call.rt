@@ -60,7 +60,7 @@ fn from_root(
     lits: &[u8],
     sat: &[u64; 6144],
     uses: &[u64],
-    vals: &mut [u8],
+    plan: &mut [u64; 438],
     preferred: u64,
     codes: &mut [u64],
     costs: &mut [u32],
@@ -71,9 +71,9 @@ fn from_root(
     k: u32,
     limit: u32,
 ) -> Finished
-    requires { ⌜ ((t : Lists d (now sizes) (now prices) (now counts) (now lits) (now sat) (now uses) (now vals) preferred k 0 (buffers (now codes) (now costs) (now queue) (now store)))
+    requires { ⌜ ((t : Lists d (now sizes) (now prices) (now counts) (now lits) (now sat) (now uses) (now plan) preferred k 0 (buffers (now codes) (now costs) (now queue) (now store)))
         × (survivors : List Assignment) × Survivors (t .plant) limit survivors used (now store) stored) ⌝ }
-    ensures { λ r. ⌜ ((t : Lists d (now (sizes .entry)) (now (prices .entry)) (now (counts .entry)) (now (lits .entry)) (now (sat .entry)) (now (uses .entry)) (now (vals .entry)) preferred k 0 (buffers (now (codes .entry)) (now (costs .entry)) (now (queue .entry)) (now (store .entry))))
+    ensures { λ r. ⌜ ((t : Lists d (now (sizes .entry)) (now (prices .entry)) (now (counts .entry)) (now (lits .entry)) (now (sat .entry)) (now (uses .entry)) (now (plan .entry)) preferred k 0 (buffers (now (codes .entry)) (now (costs .entry)) (now (queue .entry)) (now (store .entry))))
         (survivors : List Assignment) → Survivors (t .plant) limit survivors used (now (store .entry)) stored
         → FinishedAs (question (t .plant) k (now (codes .entry)) (now (costs .entry))) (now (store .exit)) (now (codes .exit)) (now (costs .exit)) r
           (run (t .plant) (orderOf (t .plant)) k (length (now (queue .entry)) / 2) (length (now (store .entry)) / 2) limit (enoughSteps (decisionSizes (t .plant))) (start (decisionSizes (t .plant)) survivors used))) ⌝ }
@@ -89,7 +89,7 @@ fn from_root(
         lits,
         sat,
         uses,
-        vals,
+        plan,
         preferred,
         codes,
         costs,
@@ -118,7 +118,7 @@ fn listing(
     lits: &[u8],
     sat: &[u64; 6144],
     uses: &[u64],
-    vals: &mut [u8],
+    plan: &mut [u64; 438],
     preferred: u64,
     codes: &mut [u64],
     costs: &mut [u32],
@@ -128,12 +128,12 @@ fn listing(
     held: usize,
     limit: u32,
 ) -> Finished
-    requires { ⌜ Lists d (now sizes) (now prices) (now counts) (now lits) (now sat) (now uses) (now vals) preferred k held (buffers (now codes) (now costs) (now queue) (now store)) ⌝ }
-    ensures { λ r. ⌜ ((t : Lists d (now (sizes .entry)) (now (prices .entry)) (now (counts .entry)) (now (lits .entry)) (now (sat .entry)) (now (uses .entry)) (now (vals .entry)) preferred k held (buffers (now (codes .entry)) (now (costs .entry)) (now (queue .entry)) (now (store .entry))))
+    requires { ⌜ Lists d (now sizes) (now prices) (now counts) (now lits) (now sat) (now uses) (now plan) preferred k held (buffers (now codes) (now costs) (now queue) (now store)) ⌝ }
+    ensures { λ r. ⌜ ((t : Lists d (now (sizes .entry)) (now (prices .entry)) (now (counts .entry)) (now (lits .entry)) (now (sat .entry)) (now (uses .entry)) (now (plan .entry)) preferred k held (buffers (now (codes .entry)) (now (costs .entry)) (now (queue .entry)) (now (store .entry))))
         → FinishedAs (question (t .plant) k (now (codes .entry)) (now (costs .entry))) (now (store .exit)) (now (codes .exit)) (now (costs .exit)) r
           (listing (t .plant) (orderOf (t .plant)) k (length (now (queue .entry)) / 2) (length (now (store .entry)) / 2) (offersOf held (now (store .entry))) limit)) ⌝ }
 {
-    match check_all(d, sizes, counts, lits, sat, uses, vals, store, held, limit) {
+    match check_all(d, sizes, counts, lits, sat, uses, plan, store, held, limit) {
         Offered::BrokenOff(m, t) => Finished {
             ending: Ending::Spent,
             progress: Progress {
@@ -146,7 +146,7 @@ fn listing(
                 trials: t,
             },
         },
-        Offered::Checked(m, t) => from_root(d, sizes, prices, counts, lits, sat, uses, vals, preferred, codes, costs, queue, store, m, t, k, limit),
+        Offered::Checked(m, t) => from_root(d, sizes, prices, counts, lits, sat, uses, plan, preferred, codes, costs, queue, store, m, t, k, limit),
     }
 }
 
@@ -191,11 +191,10 @@ fn list_tables(
 {
     let mut sat = [0u64; 6144];
     let mut uses = [0u64; 384];
-    let mut vals = [16u8; 48];
-    let n = sizes.len();
+    let mut plan = [0u64; 438];
     prepare(counts, lits, &mut sat, &mut uses);
     let preferred = preferred::preferred(sizes, prices, d);
-    let f = listing(d, sizes, prices, counts, lits, &sat, &uses, &mut vals[..n], preferred, codes, costs, queue, store, k, held, limit);
+    let f = listing(d, sizes, prices, counts, lits, &sat, &uses, &mut plan, preferred, codes, costs, queue, store, k, held, limit);
     finish(queue, store, f)
 }
 

@@ -151,15 +151,15 @@ module _ {q : Question} {limit : ℕ} {queue store codes costs : List ℕ} {g : 
   judged-is f b = rw (expand, f, b) refl
 
 -- what the functions that it calls are given
-module _ {d : ℕ} {sizes prices counts lits sat uses vals : List ℕ} {preferred limit : ℕ} {codes costs queue store : List ℕ} {g : Progress} {node : Node}
-    (t : Expands d sizes prices counts lits sat uses vals preferred limit codes costs queue store g node) where
+module _ {d : ℕ} {sizes prices counts lits sat uses plan : List ℕ} {preferred limit : ℕ} {codes costs queue store : List ℕ} {g : Progress} {node : Node}
+    (t : Expands d sizes prices counts lits sat uses plan preferred limit codes costs queue store g node) where
   pub children-given : (d ≤ 16) × (d ≤ length sizes) × (16 * d ≤ length prices) × All Sized (take d sizes) × (2 * g .stored ≤ length store)
   children-given =
       let tabled = t .tables .tabled in
       (tabled-few tabled, tabled .decisions, tabled .cost-room, rw (tabled-decisions tabled) at (tabled-sized tabled), removed-room (t .taken))
 
-  pub judge-given : Ready d sizes counts lits sat uses vals × ((q : Question) × Removed q limit queue store codes costs g node)
-  judge-given = (tabled-ready (t .tables .tabled) (t .tables .prepared) (t .tables .bytes), (t .question, t .taken))
+  pub judge-given : Ready d sizes counts lits sat uses plan × ((q : Question) × Removed q limit queue store codes costs g node)
+  judge-given = (tabled-ready (t .tables .tabled) (t .tables .prepared) (t .tables .planned), (t .question, t .taken))
 
 -- ---- step 3
 
@@ -178,8 +178,8 @@ step-expand : (p : Plant) (o : Order) {k wanted entries others : ℕ} (places li
 unfolding step remove
 step-expand p o {k} {entries = entries} places limit s n rest a b e f = rw (step, e, ap (remove p o k entries places limit s) f, a, b) refl
 
-module _ {d : ℕ} {sizes prices counts lits sat uses vals : List ℕ} {preferred k limit : ℕ} {codes costs queue store : List ℕ} {g : Progress}
-    (t : Steps d sizes prices counts lits sat uses vals preferred k limit codes costs queue store g) where
+module _ {d : ℕ} {sizes prices counts lits sat uses plan : List ℕ} {preferred k limit : ℕ} {codes costs queue store : List ℕ} {g : Progress}
+    (t : Steps d sizes prices counts lits sat uses plan preferred k limit codes costs queue store g) where
   -- as many states are listed as are wanted
   pub step-enough : k ≤ g .listed
       → NextIs (t .question) queue store codes costs (After.Ended Ending.Enough g) (step (t .question .plant) (orderOf (t .question .plant)) k (length queue / 2) (length store / 2) limit (t .state))
@@ -249,7 +249,7 @@ module _ {d : ℕ} {sizes prices counts lits sat uses vals : List ℕ} {preferre
               wanting = omega (arith, w .listed-is, t .asked);
             }
 
-        abbrev pub removes : Expands d sizes prices counts lits sat uses vals preferred limit codes costs after store one-less node
+        abbrev pub removes : Expands d sizes prices counts lits sat uses plan preferred limit codes costs after store one-less node
         removes = record { question = t .question; tables = t .tables; taken = left }
 
         -- the rest of the step is the model's

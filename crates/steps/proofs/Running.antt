@@ -79,21 +79,21 @@ pub record Reached (q : Question) (k limit : ℕ) (whole : Next) (queue store co
   pub enough : weights (decisionSizes (q .plant)) (state .queue) < left
   pub same : whole ≡ run (q .plant) (orderOf (q .plant)) k (length queue / 2) (length store / 2) limit left state
 
-module _ {d : ℕ} {sizes prices counts lits sat uses vals : List ℕ} {preferred k limit : ℕ} {codes costs queue store : List ℕ} {g : Progress}
-    (t : Steps d sizes prices counts lits sat uses vals preferred k limit codes costs queue store g) where
+module _ {d : ℕ} {sizes prices counts lits sat uses plan : List ℕ} {preferred k limit : ℕ} {codes costs queue store : List ℕ} {g : Progress}
+    (t : Steps d sizes prices counts lits sat uses plan preferred k limit codes costs queue store g) where
   -- at first
   pub reached-start : (fuel : ℕ) → weights (decisionSizes (t .question .plant)) (t .state .queue) < fuel
       → Reached (t .question) k limit (run (t .question .plant) (orderOf (t .question .plant)) k (length queue / 2) (length store / 2) limit fuel (t .state)) queue store codes costs g
   reached-start fuel h = record { state = t .state; left = fuel; turn = t .turn; enough = h; same = refl }
 
   -- a turn may begin
-  abbrev pub reached-steps : {whole : Next} {vals′ codes′ costs′ queue′ store′ : List ℕ} {g′ : Progress} → length vals′ ≡ length vals
-      → Reached (t .question) k limit whole queue′ store′ codes′ costs′ g′ → Steps d sizes prices counts lits sat uses vals′ preferred k limit codes′ costs′ queue′ store′ g′
-  reached-steps e r = record {
+  abbrev pub reached-steps : {whole : Next} {plan′ codes′ costs′ queue′ store′ : List ℕ} {g′ : Progress} → length plan′ ≡ 438
+      → Reached (t .question) k limit whole queue′ store′ codes′ costs′ g′ → Steps d sizes prices counts lits sat uses plan′ preferred k limit codes′ costs′ queue′ store′ g′
+  reached-steps l r = record {
     question = t .question;
     state = r .state;
     asked = t .asked;
-    tables = record { tabled = t .tables .tabled; prepared = t .tables .prepared; bytes = e ∙ t .tables .bytes; preferred-is = t .tables .preferred-is };
+    tables = record { tabled = t .tables .tabled; prepared = t .tables .prepared; planned = l; preferred-is = t .tables .preferred-is };
     turn = r .turn;
   }
 

@@ -28,11 +28,11 @@ pub record Question : Type 0 where
   pub codes : List ℕ
   pub costs : List ℕ
 
--- a plant's tables, with what is made of them once: the sets of clauses, a byte for each variable, the code of the preferred values
-pub record Tables (p : Plant) (d : ℕ) (sizes prices counts lits sat uses vals : List ℕ) (preferred : ℕ) : Type 0 where
+-- a plant's tables, with what is made of them once, the sets of clauses and the code of the preferred values, and room for the search
+pub record Tables (p : Plant) (d : ℕ) (sizes prices counts lits sat uses plan : List ℕ) (preferred : ℕ) : Type 0 where
   pub tabled : Tabled p d sizes prices counts lits
   pub prepared : Prepared (clauses counts lits) sat uses
-  pub bytes : length vals ≡ length sizes
+  pub planned : length plan ≡ 438
   pub preferred-is : preferred ≡ code (orderOf p .preferred)
 
 -- the store, the list and the counts are those of a state
@@ -79,17 +79,17 @@ pub record CanCount (g : Progress) : Type 0 where
   pub unkept-less : g .unkept ≤ g .tested
 
 -- the same with the plant's tables
-pub record Expands (d : ℕ) (sizes prices counts lits sat uses vals : List ℕ) (preferred limit : ℕ) (codes costs queue store : List ℕ) (g : Progress) (node : Node) : Type 0 where
+pub record Expands (d : ℕ) (sizes prices counts lits sat uses plan : List ℕ) (preferred limit : ℕ) (codes costs queue store : List ℕ) (g : Progress) (node : Node) : Type 0 where
   pub question : Question
-  pub tables : Tables (question .plant) d sizes prices counts lits sat uses vals preferred
+  pub tables : Tables (question .plant) d sizes prices counts lits sat uses plan preferred
   pub taken : Removed question limit queue store codes costs g node
 
 -- before step 3
-pub record Steps (d : ℕ) (sizes prices counts lits sat uses vals : List ℕ) (preferred k limit : ℕ) (codes costs queue store : List ℕ) (g : Progress) : Type 0 where
+pub record Steps (d : ℕ) (sizes prices counts lits sat uses plan : List ℕ) (preferred k limit : ℕ) (codes costs queue store : List ℕ) (g : Progress) : Type 0 where
   pub question : Question
   pub state : State
   pub asked : question .wanted ≡ k
-  pub tables : Tables (question .plant) d sizes prices counts lits sat uses vals preferred
+  pub tables : Tables (question .plant) d sizes prices counts lits sat uses plan preferred
   pub turn : Turn question limit queue store codes costs g state (state .queue)
 
 -- ---- what a step made

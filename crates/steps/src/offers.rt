@@ -1,6 +1,7 @@
 // Step 1: the offered entries are checked in order, and those that survive move to the front of the store.
 use conflict::tests::tested;
 use consistency::Answer;
+ghost use mathlib.Core.Path.{_≡_};
 ghost use mathlib.Core.List.{List, []};
 ghost use Prim.Native.Nat.{ℕ, _+_, _*_, _≤_, _<_};
 ghost use lib.ListN.{length};
@@ -25,23 +26,24 @@ fn check(
     lits: &[u8],
     sat: &[u64; 6144],
     uses: &[u64],
-    vals: &mut [u8],
+    plan: &mut [u64; 438],
     store: &mut [u64],
     i: usize,
     m: usize,
     used: u32,
     limit: u32,
 ) -> Offered
-    requires { ⌜ Ready d (now sizes) (now counts) (now lits) (now sat) (now uses) (now vals) × (2 * i + 2 ≤ length (now store)) × (m ≤ i) ⌝ }
+    requires { ⌜ Ready d (now sizes) (now counts) (now lits) (now sat) (now uses) (now plan) × (2 * i + 2 ≤ length (now store)) × (m ≤ i) ⌝ }
     ensures few { λ r. ⌜ OneMore m r ⌝ }
     ensures one { λ r. ⌜ ForPlant d (now (sizes .entry)) (now (counts .entry)) (now (lits .entry)) (λ p. (held : ℕ) (survivors : List Assignment) → i < held → 2 * held ≤ length (now (store .entry))
         → Keeps (length (p .costs)) (now (store .entry)) m survivors → CheckedOne p limit held i survivors used (now (store .entry)) (now (store .exit)) r) ⌝ }
+    ensures long { λ _. ⌜ length (now (plan .exit)) ≡ 438 ⌝ }
 {
     let e = store::entry_at(store, i);
     if !words::well_formed(e.mask, e.values, sizes, d) {
         return Offered::Checked(m, used);
     }
-    match tested(d, sizes, counts, lits, sat, uses, vals, e.mask, e.values, used, limit) {
+    match tested(d, sizes, counts, lits, sat, uses, plan, e.mask, e.values, used, limit) {
         Answer::Consistent(t) => Offered::Checked(m, t),
         Answer::Spent(t) => Offered::BrokenOff(m, t),
         Answer::Inconsistent(t) => {
@@ -59,19 +61,20 @@ pub fn check_all(
     lits: &[u8],
     sat: &[u64; 6144],
     uses: &[u64],
-    vals: &mut [u8],
+    plan: &mut [u64; 438],
     store: &mut [u64],
     held: usize,
     limit: u32,
 ) -> Offered
-    requires { ⌜ Ready d (now sizes) (now counts) (now lits) (now sat) (now uses) (now vals) × (2 * held ≤ length (now store)) ⌝ }
-    ensures { λ r. ⌜ ForPlant d (now (sizes .entry)) (now (counts .entry)) (now (lits .entry)) (λ p. OfferedAs p (now (store .exit)) r (checkOffers p limit [] (offersOf held (now (store .entry))) 0)) ⌝ }
+    requires { ⌜ Ready d (now sizes) (now counts) (now lits) (now sat) (now uses) (now plan) × (2 * held ≤ length (now store)) ⌝ }
+    ensures answer { λ r. ⌜ ForPlant d (now (sizes .entry)) (now (counts .entry)) (now (lits .entry)) (λ p. OfferedAs p (now (store .exit)) r (checkOffers p limit [] (offersOf held (now (store .entry))) 0)) ⌝ }
+    ensures long { λ _. ⌜ length (now (plan .exit)) ≡ 438 ⌝ }
 {
     let mut m = 0;
     let mut used: u32 = 0;
     let mut i = 0;
     while i < held {
-        match check(d, sizes, counts, lits, sat, uses, vals, store, i, m, used, limit) {
+        match check(d, sizes, counts, lits, sat, uses, plan, store, i, m, used, limit) {
             Offered::BrokenOff(n, t) => {
                 return Offered::BrokenOff(n, t);
             }

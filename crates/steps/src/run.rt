@@ -62,7 +62,7 @@ fn learn(
     lits: &[u8],
     sat: &[u64; 6144],
     uses: &[u64],
-    vals: &mut [u8],
+    plan: &mut [u64; 438],
     queue: &mut [u64],
     store: &mut [u64],
     g: Progress,
@@ -70,11 +70,12 @@ fn learn(
     trials: u32,
     limit: u32,
 ) -> Next
-    requires { ⌜ Ready d (now sizes) (now counts) (now lits) (now sat) (now uses) (now vals) × CanCount g × (2 * g .queued ≤ length (now queue)) ⌝ }
-    ensures { λ r. ⌜ ((q : Question) (prices codes costs : List ℕ) → Tabled (q .plant) d (now (sizes .entry)) prices (now (counts .entry)) (now (lits .entry))
+    requires { ⌜ Ready d (now sizes) (now counts) (now lits) (now sat) (now uses) (now plan) × CanCount g × (2 * g .queued ≤ length (now queue)) ⌝ }
+    ensures answer { λ r. ⌜ ((q : Question) (prices codes costs : List ℕ) → Tabled (q .plant) d (now (sizes .entry)) prices (now (counts .entry)) (now (lits .entry))
         → (t : Removed q limit (now (queue .entry)) (now (store .entry)) codes costs g node)
         → NextIs q (now (queue .exit)) (now (store .exit)) codes costs r
           (learn (q .plant) (orderOf (q .plant)) (q .wanted) (length (now (queue .entry)) / 2) (length (now (store .entry)) / 2) limit (t .state) (t .rest) (t .parent) trials)) ⌝ }
+    ensures long { λ _. ⌜ length (now (plan .exit)) ≡ 438 ⌝ }
 {
     if store.len() / 2 <= g.stored {
         return Next::More(Progress {
@@ -87,7 +88,7 @@ fn learn(
             trials: trials,
         });
     }
-    match reduce(d, sizes, counts, lits, sat, uses, vals, node.mask, children::values(node), trials, limit) {
+    match reduce(d, sizes, counts, lits, sat, uses, plan, node.mask, children::values(node), trials, limit) {
         Reduced::Spent(t) => Next::Ended(Ending::Spent, Progress {
             queued: g.queued,
             stored: g.stored,
@@ -121,7 +122,7 @@ fn judge(
     lits: &[u8],
     sat: &[u64; 6144],
     uses: &[u64],
-    vals: &mut [u8],
+    plan: &mut [u64; 438],
     codes: &mut [u64],
     costs: &mut [u32],
     queue: &mut [u64],
@@ -130,16 +131,17 @@ fn judge(
     node: Node,
     limit: u32,
 ) -> Next
-    requires { ⌜ Ready d (now sizes) (now counts) (now lits) (now sat) (now uses) (now vals) × ((q : Question) × Removed q limit (now queue) (now store) (now codes) (now costs) g node) ⌝ }
-    ensures { λ r. ⌜ ((q : Question) (prices : List ℕ) → Tabled (q .plant) d (now (sizes .entry)) prices (now (counts .entry)) (now (lits .entry))
+    requires { ⌜ Ready d (now sizes) (now counts) (now lits) (now sat) (now uses) (now plan) × ((q : Question) × Removed q limit (now queue) (now store) (now codes) (now costs) g node) ⌝ }
+    ensures answer { λ r. ⌜ ((q : Question) (prices : List ℕ) → Tabled (q .plant) d (now (sizes .entry)) prices (now (counts .entry)) (now (lits .entry))
         → (t : Removed q limit (now (queue .entry)) (now (store .entry)) (now (codes .entry)) (now (costs .entry)) g node) → isFull (t .parent) ≡ true
         → NextIs q (now (queue .exit)) (now (store .exit)) (now (codes .exit)) (now (costs .exit)) r
           (judge (q .plant) (orderOf (q .plant)) (q .wanted) (length (now (queue .entry)) / 2) (length (now (store .entry)) / 2) limit (t .state) (t .rest) (t .parent))) ⌝ }
+    ensures long { λ _. ⌜ length (now (plan .exit)) ≡ 438 ⌝ }
 {
     if g.tested == 4294967295 {
         return Next::Ended(Ending::Spent, g);
     }
-    match tested(d, sizes, counts, lits, sat, uses, vals, node.mask, children::values(node), g.trials, limit) {
+    match tested(d, sizes, counts, lits, sat, uses, plan, node.mask, children::values(node), g.trials, limit) {
         Answer::Spent(t) => Next::Ended(Ending::Spent, Progress {
             queued: g.queued,
             stored: g.stored,
@@ -149,7 +151,7 @@ fn judge(
             unkept: g.unkept,
             trials: t,
         }),
-        Answer::Inconsistent(t) => learn(d, sizes, counts, lits, sat, uses, vals, queue, store, g, node, t, limit),
+        Answer::Inconsistent(t) => learn(d, sizes, counts, lits, sat, uses, plan, queue, store, g, node, t, limit),
         Answer::Consistent(t) => {
             let at = g.listed as usize;
             codes[at] = node.code;
@@ -194,7 +196,7 @@ fn expand(
     lits: &[u8],
     sat: &[u64; 6144],
     uses: &[u64],
-    vals: &mut [u8],
+    plan: &mut [u64; 438],
     preferred: u64,
     codes: &mut [u64],
     costs: &mut [u32],
@@ -204,17 +206,18 @@ fn expand(
     node: Node,
     limit: u32,
 ) -> Next
-    requires { ⌜ Expands d (now sizes) (now prices) (now counts) (now lits) (now sat) (now uses) (now vals) preferred limit (now codes) (now costs) (now queue) (now store) g node ⌝ }
-    ensures { λ r. ⌜ ((t : Expands d (now (sizes .entry)) (now (prices .entry)) (now (counts .entry)) (now (lits .entry)) (now (sat .entry)) (now (uses .entry)) (now (vals .entry)) preferred limit (now (codes .entry)) (now (costs .entry)) (now (queue .entry)) (now (store .entry)) g node)
+    requires { ⌜ Expands d (now sizes) (now prices) (now counts) (now lits) (now sat) (now uses) (now plan) preferred limit (now codes) (now costs) (now queue) (now store) g node ⌝ }
+    ensures answer { λ r. ⌜ ((t : Expands d (now (sizes .entry)) (now (prices .entry)) (now (counts .entry)) (now (lits .entry)) (now (sat .entry)) (now (uses .entry)) (now (plan .entry)) preferred limit (now (codes .entry)) (now (costs .entry)) (now (queue .entry)) (now (store .entry)) g node)
         → NextIs (t .question) (now (queue .exit)) (now (store .exit)) (now (codes .exit)) (now (costs .exit)) r
           (expand (t .question .plant) (orderOf (t .question .plant)) (t .question .wanted) (length (now (queue .entry)) / 2) (length (now (store .entry)) / 2) limit (t .taken .state) (t .taken .rest) (t .taken .parent))) ⌝ }
+    ensures long { λ _. ⌜ length (now (plan .exit)) ≡ 438 ⌝ }
 {
     let values = children::values(node);
     match store::first_unresolved(store, g.stored, values, words::widened(node.mask)) {
         Unresolved::At(m, x) => put(g, children::resolve(sizes, prices, preferred, d, node, m, x, queue, g.queued, store, g.stored)),
         Unresolved::Nothing => {
             if words::is_full(node.mask, d) {
-                return judge(d, sizes, counts, lits, sat, uses, vals, codes, costs, queue, store, g, node, limit);
+                return judge(d, sizes, counts, lits, sat, uses, plan, codes, costs, queue, store, g, node, limit);
             }
             put(g, children::branch(sizes, prices, preferred, d, node, queue, g.queued, store, g.stored))
         }
@@ -230,7 +233,7 @@ fn step(
     lits: &[u8],
     sat: &[u64; 6144],
     uses: &[u64],
-    vals: &mut [u8],
+    plan: &mut [u64; 438],
     preferred: u64,
     codes: &mut [u64],
     costs: &mut [u32],
@@ -240,10 +243,11 @@ fn step(
     k: u32,
     limit: u32,
 ) -> Next
-    requires { ⌜ Steps d (now sizes) (now prices) (now counts) (now lits) (now sat) (now uses) (now vals) preferred k limit (now codes) (now costs) (now queue) (now store) g ⌝ }
-    ensures { λ r. ⌜ ((t : Steps d (now (sizes .entry)) (now (prices .entry)) (now (counts .entry)) (now (lits .entry)) (now (sat .entry)) (now (uses .entry)) (now (vals .entry)) preferred k limit (now (codes .entry)) (now (costs .entry)) (now (queue .entry)) (now (store .entry)) g)
+    requires { ⌜ Steps d (now sizes) (now prices) (now counts) (now lits) (now sat) (now uses) (now plan) preferred k limit (now codes) (now costs) (now queue) (now store) g ⌝ }
+    ensures answer { λ r. ⌜ ((t : Steps d (now (sizes .entry)) (now (prices .entry)) (now (counts .entry)) (now (lits .entry)) (now (sat .entry)) (now (uses .entry)) (now (plan .entry)) preferred k limit (now (codes .entry)) (now (costs .entry)) (now (queue .entry)) (now (store .entry)) g)
         → NextIs (t .question) (now (queue .exit)) (now (store .exit)) (now (codes .exit)) (now (costs .exit)) r
           (step (t .question .plant) (orderOf (t .question .plant)) k (length (now (queue .entry)) / 2) (length (now (store .entry)) / 2) limit (t .state))) ⌝ }
+    ensures long { λ _. ⌜ length (now (plan .exit)) ≡ 438 ⌝ }
 {
     if k <= g.listed {
         return Next::Ended(Ending::Enough, g);
@@ -261,7 +265,7 @@ fn step(
         unkept: g.unkept,
         trials: g.trials,
     };
-    expand(d, sizes, prices, counts, lits, sat, uses, vals, preferred, codes, costs, queue, store, left, children::from_entry(e.a, e.b), limit)
+    expand(d, sizes, prices, counts, lits, sat, uses, plan, preferred, codes, costs, queue, store, left, children::from_entry(e.a, e.b), limit)
 }
 
 // Steps 3 to 7 until one of them ends the run.
@@ -273,7 +277,7 @@ pub fn run(
     lits: &[u8],
     sat: &[u64; 6144],
     uses: &[u64],
-    vals: &mut [u8],
+    plan: &mut [u64; 438],
     preferred: u64,
     codes: &mut [u64],
     costs: &mut [u32],
@@ -283,15 +287,15 @@ pub fn run(
     k: u32,
     limit: u32,
 ) -> Finished
-    requires { ⌜ Steps d (now sizes) (now prices) (now counts) (now lits) (now sat) (now uses) (now vals) preferred k limit (now codes) (now costs) (now queue) (now store) start ⌝ }
-    ensures { λ r. ⌜ ((t : Steps d (now (sizes .entry)) (now (prices .entry)) (now (counts .entry)) (now (lits .entry)) (now (sat .entry)) (now (uses .entry)) (now (vals .entry)) preferred k limit (now (codes .entry)) (now (costs .entry)) (now (queue .entry)) (now (store .entry)) start)
+    requires { ⌜ Steps d (now sizes) (now prices) (now counts) (now lits) (now sat) (now uses) (now plan) preferred k limit (now codes) (now costs) (now queue) (now store) start ⌝ }
+    ensures { λ r. ⌜ ((t : Steps d (now (sizes .entry)) (now (prices .entry)) (now (counts .entry)) (now (lits .entry)) (now (sat .entry)) (now (uses .entry)) (now (plan .entry)) preferred k limit (now (codes .entry)) (now (costs .entry)) (now (queue .entry)) (now (store .entry)) start)
         (fuel : ℕ) → weights (decisionSizes (t .question .plant)) (t .state .queue) < fuel
         → FinishedAs (t .question) (now (store .exit)) (now (codes .exit)) (now (costs .exit)) r
           (run (t .question .plant) (orderOf (t .question .plant)) k (length (now (queue .entry)) / 2) (length (now (store .entry)) / 2) limit fuel (t .state))) ⌝ }
 {
     let mut g = start;
     loop {
-        match step(d, sizes, prices, counts, lits, sat, uses, vals, preferred, codes, costs, queue, store, g, k, limit) {
+        match step(d, sizes, prices, counts, lits, sat, uses, plan, preferred, codes, costs, queue, store, g, k, limit) {
             Next::Ended(ending, progress) => {
                 return Finished {
                     ending: ending,

@@ -1,4 +1,4 @@
--- The trials of the test: they never fall and never pass the limit, and a larger limit that is not struck changes nothing. Assumes nothing.
+-- The trials of the test: they never fall and never pass the limit; a larger limit that is not struck changes nothing, nor does any limit that allows the trials of a search that found no values. Assumes nothing.
 use mathlib.Core.Path.{_≡_, refl}
 use mathlib.Core.Logic.{inl, inr}
 use mathlib.Core.Option.{none, some}
@@ -78,6 +78,62 @@ module _ (cs : List (List Literal)) (limit limit′ : ℕ) (larger : limit ≤ l
         (tries-beside (explore cs limit ss n (v + 1)) (explore cs limit′ ss n (v + 1)) (explore-beside ss n (v + 1)) v a (getD ss v 0) 0 used)
     | inr e ↦ rw (hop-skip cs limit ss n v used a (e .0) (e .1), hop-skip cs limit′ ss n v used a (e .0) (e .1)) (explore-beside ss n (v + 1) used a)
   ]
+
+-- ---- one run that finds no values beside another, with any limit that allows its trials
+
+-- two attempts end inconsistent, the one after the other, where both do
+or-inconsistent : (r : Tested) (next : ℕ → Tested) (u : ℕ) → orElse r next ≡ inconsistent u → (t : ℕ) × (r ≡ inconsistent t) × (next t ≡ inconsistent u)
+unfolding orElse
+or-inconsistent (consistent f t) next u e = let z : _≡_ {A = ℕ} 0 1 = cc in absurd (omega arith)
+or-inconsistent (inconsistent t) next u e = (t, refl, e)
+or-inconsistent (spent t) next u e = let z : _≡_ {A = ℕ} 0 1 = cc in absurd (omega arith)
+
+module _ (cs : List (List Literal)) (limit limit′ : ℕ) where
+  -- a run from `used` trials on, and the other run: where this one ends inconsistent, no trials are lost, and the other run ends so too if its limit allows them
+  abbrev Refuted : ℕ → Tested → Tested → Type 0
+  Refuted used r s = (u : ℕ) → r ≡ inconsistent u → (used ≤ u) × (u ≤ limit′ → s ≡ inconsistent u)
+
+  -- a run that makes no further trial
+  refuted-none : (used : ℕ) → Refuted used (inconsistent used) (inconsistent used)
+  refuted-none used u e = let same : used ≡ u = cc in (omega (arith, same), λ h. e)
+
+  module _ (deeper deeper′ : ℕ → Assignment → Tested) (same : (used : ℕ) (a : Assignment) → Refuted used (deeper used a) (deeper′ used a)) (v : ℕ) (a : Assignment) where
+    -- a trial
+    attempt-refuted : (x used : ℕ) → Refuted (used + 1) (attempt cs limit deeper v a x used) (attempt cs limit′ deeper′ v a x used)
+    attempt-refuted x used = elim (either (anyFalse (set a v (some x)) cs)) [
+      | inl e ↦ rw (attempt-false cs limit deeper v a x used e, attempt-false cs limit′ deeper′ v a x used e) (refuted-none (used + 1))
+      | inr e ↦ rw (attempt-deeper cs limit deeper v a x used e, attempt-deeper cs limit′ deeper′ v a x used e) (same (used + 1) (set a v (some x)))
+    ]
+
+    -- the values of a variable
+    tries-refuted : (n x used : ℕ) → Refuted used (tryValues cs limit deeper v a n x used) (tryValues cs limit′ deeper′ v a n x used)
+    unfolding tryValues orElse
+    tries-refuted zero x used = refuted-none used
+    tries-refuted (suc n) x used = go (tries-refuted n (x + 1)) (decLt used limit)
+      where
+        go : ((t : ℕ) → Refuted t (tryValues cs limit deeper v a n (x + 1) t) (tryValues cs limit′ deeper′ v a n (x + 1) t)) → Dec (used < limit)
+            → Refuted used (tryValues cs limit deeper v a (suc n) x used) (tryValues cs limit′ deeper′ v a (suc n) x used)
+        go ih (no d) u e = let s = turn-spent cs limit deeper v a n x used (omega arith) in let z : _≡_ {A = ℕ} 0 1 = cc in absurd (omega arith)
+        go ih (yes d) u e =
+            let (t, first, rest) = or-inconsistent (attempt cs limit deeper v a x used) (tryValues cs limit deeper v a n (x + 1)) u (rw (turn cs limit deeper v a n x used d) at e) in
+            let h = attempt-refuted x used t first in
+            let k = ih t u rest in
+            (omega (arith, h .0, k .0), λ l. rw (turn cs limit′ deeper′ v a n x used (omega (arith, h .0, k .0)), h .1 (omega (arith, k .0))) (k .1 l))
+
+  -- the variables
+  explore-both : (ss : List ℕ) (n v used : ℕ) (a : Assignment) → Refuted used (explore cs limit ss n v used a) (explore cs limit′ ss n v used a)
+  unfolding explore
+  explore-both ss zero v used a = λ u e. let z : _≡_ {A = ℕ} 0 1 = cc in absurd (omega arith)
+  explore-both ss (suc n) v used a = elim (assigned? (getD a v none)) [
+    | inl e ↦ rw (hop-try cs limit ss n v used a e, hop-try cs limit′ ss n v used a e)
+        (tries-refuted (explore cs limit ss n (v + 1)) (explore cs limit′ ss n (v + 1)) (explore-both ss n (v + 1)) v a (getD ss v 0) 0 used)
+    | inr e ↦ rw (hop-skip cs limit ss n v used a (e .0) (e .1), hop-skip cs limit′ ss n v used a (e .0) (e .1)) (explore-both ss n (v + 1) used a)
+  ]
+
+-- where the search found no values, it finds none with any limit that allows its trials, by as many trials
+pub explore-refuted : (cs : List (List Literal)) (limit limit′ : ℕ) (ss : List ℕ) (n v used u : ℕ) (a : Assignment)
+    → explore cs limit ss n v used a ≡ inconsistent u → u ≤ limit′ → explore cs limit′ ss n v used a ≡ inconsistent u
+explore-refuted cs limit limit′ ss n v used u a e = explore-both cs limit limit′ ss n v used a u e .1
 
 -- ---- the theorems
 

@@ -40,7 +40,7 @@ returns-2 c =
     let s = c .before .before .before .before .before .before .before .before .before .before .before .before .before .before .before .before .before .before .before in
     searched _ _ _ _ _ _ (s .pre) _ _ 512 (s .pre .tables .most) (omega arith)
     (sym (c .before .before .before .before .before .before .before .before .before .before .before .before .any-false .ensures) ∙ c .before .before .before .before .before .before .before .before .before .before .before .if1 .left)
-    _ _ _ _ (c .before .before .before .before .before .before .before .start .ensures) (c .before .before .search .ensures)
+    _ _ _ _ tt (c .before .before .before .before .before .before .before .start .ensures) (c .before .before .search .ensures)
 
 pub test-rows-spec : {M : Type 1} → statement M
 test-rows-spec =

@@ -17,11 +17,8 @@ enum-known-t-2 c = search needs
 enum-known-t-3 : tie.Need-enum-known-t-3
 enum-known-t-3 c = search needs
 
-same-length : tie.Need-same-length
-same-length c = search needs
-
 returns : tie.Need-returns
-returns c p costs t a w v = answers-whole p _ a (c .before .before .before .before .before .before .tested .ensures p costs t a w v) (c .before .before .t3 .given .1) (not-true _ (c .if1 .taken))
+returns c p costs t a w v = answers-whole p _ a (c .before .before .before .before .tested .ensures .0 p costs t a w v) (c .before .before .t3 .given .1) (not-true _ (c .if1 .taken))
 
 reduce-requires : tie.Need-reduce-requires
 reduce-requires c κs = search needs
@@ -32,33 +29,21 @@ enum-known-m c = search needs
 enum-known-u : tie.Need-enum-known-u
 enum-known-u c = search needs
 
-same-length-2 : tie.Need-same-length-2
-same-length-2 c = search needs
-
 returns-2 : tie.Need-returns-2
-returns-2 c p costs t a w v = answers-none p _ a (c .before .before .before .before .before .tested .ensures p costs t a w v) (c .before .t .given .1)
-
-same-length-3 : tie.Need-same-length-3
-same-length-3 c = search needs
+returns-2 c p costs t a w v = answers-none p _ a (c .before .before .before .tested .ensures .0 p costs t a w v) (c .before .t .given .1)
 
 returns-3 : tie.Need-returns-3
-returns-3 c p costs t a w v = answers-spent p _ a (c .before .before .before .before .before .tested .ensures p costs t a w v) (c .before .t2 .given .1)
-
-same-length-4 : tie.Need-same-length-4
-same-length-4 c = search needs
+returns-3 c p costs t a w v = answers-spent p _ a (c .before .before .before .tested .ensures .0 p costs t a w v) (c .before .t2 .given .1)
 
 returns-4 : tie.Need-returns-4
 returns-4 c p costs t a w v =
-    let k = c .before .before .before .before .before .before .before in
-    answers-conflict p _ a (k .before .before .before .before .before .before .tested .ensures p costs t a w v) (k .before .before .t3 .given .1) (not-false _ (k .if1 .left)) _ (c .before .before .before .before .before .reduce .ensures p costs t a w v) (c .before .m .given .1)
-
-same-length-5 : tie.Need-same-length-5
-same-length-5 c = search needs
+    let k = c .before .before .before .before .before in
+    answers-conflict p _ a (k .before .before .before .before .tested .ensures .0 p costs t a w v) (k .before .before .t3 .given .1) (not-false _ (k .if1 .left)) _ (c .before .before .before .reduce .ensures .0 p costs t a w v) (c .before .m .given .1)
 
 returns-5 : tie.Need-returns-5
 returns-5 c p costs t a w v =
-    let k = c .before .before .before .before .before .before .before in
-    answers-stopped p _ a (k .before .before .before .before .before .before .tested .ensures p costs t a w v) (k .before .before .t3 .given .1) (not-false _ (k .if1 .left)) _ (c .before .before .before .before .before .reduce .ensures p costs t a w v) (c .before .u .given .1)
+    let k = c .before .before .before .before .before in
+    answers-stopped p _ a (k .before .before .before .before .tested .ensures .0 p costs t a w v) (k .before .before .t3 .given .1) (not-false _ (k .if1 .left)) _ (c .before .before .before .reduce .ensures .0 p costs t a w v) (c .before .u .given .1)
 
 pub conflict-of-spec : {M : Type 1} → statement M
 conflict-of-spec =
@@ -68,16 +53,11 @@ conflict-of-spec =
     enum-known-t
     enum-known-t-2
     enum-known-t-3
-    same-length
     returns
     reduce-requires
     enum-known-m
     enum-known-u
-    same-length-2
     returns-2
-    same-length-3
     returns-3
-    same-length-4
     returns-4
-    same-length-5
     returns-5)

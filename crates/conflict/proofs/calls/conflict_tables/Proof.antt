@@ -2,9 +2,9 @@
 use mathlib.Core.Path.{sym, _∙_}
 use native.Mathlib.Omega.{arith}
 use borrow.Author.Needs.{needs}
-use lib.Seq.{length-take-le}
 use Rattle.clauses.proofs.Callers.{tables-more, zeros}
 use Rattle.conflict.proofs.Asking.{plant-refuses, plant-answers}
+use Rattle.conflict.proofs.Given.{plan-long}
 use Rattle.conflict.proofs.calls.conflict_tables.Statement.{statement}
 use Rattle.conflict.proofs.calls.conflict_tables.Tie as tie
 
@@ -28,22 +28,16 @@ prepare-requires c κs =
 slice-aggregate-conflict-of : tie.Need-slice-aggregate-conflict-of
 slice-aggregate-conflict-of c = search needs
 
-array-borrow-prefix-vals : tie.Need-array-borrow-prefix-vals
-array-borrow-prefix-vals c = search needs
-
-slice-aggregate-conflict-of-2 : tie.Need-slice-aggregate-conflict-of-2
-slice-aggregate-conflict-of-2 c = sym (length-take-le _ _ (c .before .before .before .before .before .before .before .before .before .before .before .before .before .pre .few))
-
 conflict-of-requires : tie.Need-conflict-of-requires
 conflict-of-requires c κs =
     let s = c .before .before .before .before .before .before .before .before .before .before .before .before .before in
-    record { limits = s .pre; prepared = c .before .before .before .before .before .prepare .ensures; same = length-take-le _ _ (s .pre .few) }
+    record { limits = s .pre; prepared = c .before .before .before .before .before .prepare .ensures; planned = plan-long }
 
 returns-2 : tie.Need-returns-2
 returns-2 c p costs t =
-    let g = c .before .before .before .before .before .before .before .before .before .before in
+    let g = c .before .before .before .before .before .before .before .before .before in
     let s = g .before .before .before .before .before in
-    plant-answers t _ _ _ (sym (g .before .unfit .ensures) ∙ g .if1 .left) (s .fits .mask .fits) (s .fits .values .fits) (c .before .conflict-of .ensures p costs t)
+    plant-answers t _ _ _ (sym (g .before .unfit .ensures) ∙ g .if1 .left) (s .fits .mask .fits) (s .fits .values .fits) (c .conflict-of .ensures p costs t)
 
 pub conflict-tables-spec : {M : Type 1} → statement M
 conflict-tables-spec =
@@ -55,7 +49,5 @@ conflict-tables-spec =
     slice-aggregate-prepare-2
     prepare-requires
     slice-aggregate-conflict-of
-    array-borrow-prefix-vals
-    slice-aggregate-conflict-of-2
     conflict-of-requires
     returns-2)

@@ -17,12 +17,12 @@ unpacked-requires c κs = search needs
 with-trials-made-requires : tie.Need-with-trials-made-requires
 with-trials-made-requires c κs =
     let s = c .before .before .before .before in
-    (rw (c .unpacked .ensures) (c .before .descend .ensures .2), omega (arith, c .before .before .before .trials-left .ensures, s .fits .used .fits, s .fits .limit .fits))
+    (rw (c .unpacked .ensures) (c .before .descend .ensures .few), omega (arith, c .before .before .before .trials-left .ensures, s .fits .used .fits, s .fits .limit .fits))
 
 returns : tie.Need-returns
-returns c sizes vals p =
-    rw (c .with-trials-made .ensures, c .before .unpacked .ensures, told-afterwards _ _ vals _ _)
-    (c .before .before .descend .ensures .0 sizes vals _ _ p (c .before .before .before .before .trials-left .ensures))
+returns c =
+    let f = c .before .before .descend .ensures in
+    (λ sizes vals p. rw (c .with-trials-made .ensures, c .before .unpacked .ensures, told-afterwards _ _ vals _ _) (f .finds sizes vals _ _ p (c .before .before .before .before .trials-left .ensures)), f .long)
 
 pub search-spec : {M : Type 1} → statement M
 search-spec =

@@ -13,7 +13,7 @@ use Rattle.consistency.proofs.pair_search.start.Tie as tie
 abbrev Inv-loop : tie.InvT-loop
 Inv-loop sizes vals sat uses plan₀ v₀ s₀ plan v s =
     (v ≤ length vals)
-    × Lent 193 vals sat uses plan
+    × Lent 438 vals sat uses plan
     × (length vals ≡ length sizes)
     × Planned sizes vals sat uses plan (s .next) (inPair (s .held1) (s .held2)) (inPair (s .open1) (s .open2)) v
 
@@ -26,8 +26,8 @@ element-write-plan c = omega arith
 loop-holds : tie.Need-loop-holds Inv-loop μ-loop
 loop-holds c =
     let p = c .before .before .before .pre in
-    let long : 193 ≤ length (set (c .before .before .before .args .plan .now) 192 (length (c .before .before .before .args .vals .now))) = simp length-set (p .0 .long) in
-    (omega arith, lent-longer _ _ _ _ _ _ long (p .0), p .1, planned-end _ _ _ _ _ (getD-set-same (c .before .before .before .args .plan .now) 192 _ 0 (omega (arith, p .0 .long))) long)
+    let long : length (set (c .before .before .before .args .plan .now) 192 (length (c .before .before .before .args .vals .now))) ≡ 438 = simp length-set (p .2) in
+    (omega arith, lent-longer _ _ _ _ _ _ (omega (arith, long)) (p .0), p .1, planned-end _ _ _ _ _ (getD-set-same (c .before .before .before .args .plan .now) 192 _ 0 (omega (arith, p .2))) long)
 
 sub-v : tie.Need-sub-v Inv-loop μ-loop
 sub-v c = omega arith
@@ -45,7 +45,7 @@ loop-again c =
     let h = c .before .before .before .loop in
     let e : h .v ≡ h .v - 1 + 1 = omega arith in
     let p = c .taken-in .ensures (rw e at (h .inv .3)) in
-    (omega arith, lent-longer _ _ _ _ _ _ (p .long) (h .inv .1), h .inv .2, p)
+    (omega arith, lent-longer _ _ _ _ _ _ (omega (arith, p .long)) (h .inv .1), h .inv .2, p)
 
 returns : tie.Need-returns Inv-loop μ-loop
 returns c =

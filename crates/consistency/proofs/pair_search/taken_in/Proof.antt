@@ -1,10 +1,25 @@
--- `pair_search::taken_in` meets its contract, by one law for an unassigned variable and one for an assigned one. Assumes nothing.
+-- `pair_search::taken_in` meets its contract: nothing is noted at v, and its row is written where it is unassigned. Assumes nothing.
 use mathlib.Core.Path.{refl}
 use native.Mathlib.Omega.{arith}
+use Rattle.consistency.proofs.Plans.{lent-longer, planned-blanked, planned-free, planned-set}
 use borrow.Author.Needs.{needs}
-use Rattle.consistency.proofs.Plans.{planned-free, planned-set}
 use Rattle.consistency.proofs.pair_search.taken_in.Statement.{statement}
 use Rattle.consistency.proofs.pair_search.taken_in.Tie as tie
+
+mul-plan : tie.Need-mul-plan
+mul-plan c = search needs
+
+add-plan : tie.Need-add-plan
+add-plan c = search needs
+
+add-plan-2 : tie.Need-add-plan-2
+add-plan-2 c = search needs
+
+mul-plan-2 : tie.Need-mul-plan-2
+mul-plan-2 c = search needs
+
+element-write-plan : tie.Need-element-write-plan
+element-write-plan c = search needs
 
 shared-slice-read-a : tie.Need-shared-slice-read-a
 shared-slice-read-a c = search needs
@@ -36,20 +51,8 @@ shared-slice-read-plan c = search needs
 cast-plan : tie.Need-cast-plan
 cast-plan c = omega (arith, c .shared-slice-known7 .given (c .before .before .before .before .before .before .before .before .args .v))
 
-mul-plan : tie.Need-mul-plan
-mul-plan c = search needs
-
-mul-plan-2 : tie.Need-mul-plan-2
-mul-plan-2 c = search needs
-
-element-write-plan : tie.Need-element-write-plan
-element-write-plan c = search needs
-
 mul-plan-3 : tie.Need-mul-plan-3
 mul-plan-3 c = search needs
-
-add-plan : tie.Need-add-plan
-add-plan c = search needs
 
 mul-plan-4 : tie.Need-mul-plan-4
 mul-plan-4 c = search needs
@@ -60,8 +63,8 @@ element-write-plan-2 c = search needs
 mul-plan-5 : tie.Need-mul-plan-5
 mul-plan-5 c = search needs
 
-add-plan-2 : tie.Need-add-plan-2
-add-plan-2 c = search needs
+add-plan-3 : tie.Need-add-plan-3
+add-plan-3 c = search needs
 
 mul-plan-6 : tie.Need-mul-plan-6
 mul-plan-6 c = search needs
@@ -72,8 +75,8 @@ element-write-plan-3 c = search needs
 mul-plan-7 : tie.Need-mul-plan-7
 mul-plan-7 c = search needs
 
-add-plan-3 : tie.Need-add-plan-3
-add-plan-3 c = search needs
+add-plan-4 : tie.Need-add-plan-4
+add-plan-4 c = search needs
 
 mul-plan-8 : tie.Need-mul-plan-8
 mul-plan-8 c = search needs
@@ -81,10 +84,24 @@ mul-plan-8 c = search needs
 element-write-plan-4 : tie.Need-element-write-plan-4
 element-write-plan-4 c = search needs
 
+mul-plan-9 : tie.Need-mul-plan-9
+mul-plan-9 c = search needs
+
+add-plan-5 : tie.Need-add-plan-5
+add-plan-5 c = search needs
+
+mul-plan-10 : tie.Need-mul-plan-10
+mul-plan-10 c = search needs
+
+element-write-plan-5 : tie.Need-element-write-plan-5
+element-write-plan-5 c = search needs
+
 returns : tie.Need-returns
-returns c p =
+returns c =
     let s = c .before .before .before .before .before .before .before .before .before .before .before .before in
-    planned-free _ _ _ _ _ _ _ _ _ _ (s .args .v) (s .pre .0) (s .pre .1) p _ _ _ refl refl refl (c .before .before .before .before .before .before .before .if1 .taken)
+    λ p.
+    let k = planned-blanked _ _ _ _ _ _ (s .args .v) _ _ (s .pre .0 .few) (omega (arith, s .pre .0 .few, s .pre .1)) p in
+    planned-free _ _ _ _ _ _ _ _ _ _ (s .args .v) (lent-longer _ _ _ _ _ _ (omega (arith, k .0 .long)) (s .pre .0)) (s .pre .1) (k .0) (k .1) _ _ _ refl refl refl (c .before .before .before .before .before .before .before .if1 .taken)
 
 mul-row : tie.Need-mul-row
 mul-row c = search needs
@@ -93,54 +110,45 @@ wide-requires : tie.Need-wide-requires
 wide-requires c κs = search needs
 
 add-row : tie.Need-add-row
-add-row c =
-    let s = c .before .before .before .before .before .before in
-    omega (arith, s .pre .0 .bytes (s .args .v))
+add-row c = let s = c .before .before .before .before .before .before in omega (arith, s .pre .0 .bytes (s .args .v))
 
-mul-t32 : tie.Need-mul-t32
-mul-t32 c =
-    let s = c .before .before .before .before .before .before in
-    omega (arith, s .pre .0 .bytes (s .args .v))
+mul-t14 : tie.Need-mul-t14
+mul-t14 c = let s = c .before .before .before .before .before .before in omega (arith, s .pre .0 .bytes (s .args .v))
 
-mul-t33 : tie.Need-mul-t33
-mul-t33 c =
-    let s = c .before .before .before .before .before .before in
-    omega (arith, s .pre .0 .bytes (s .args .v))
+mul-t13 : tie.Need-mul-t13
+mul-t13 c = let s = c .before .before .before .before .before .before in omega (arith, s .pre .0 .bytes (s .args .v))
 
-element-copy-out-t36 : tie.Need-element-copy-out-t36
-element-copy-out-t36 c =
-    let s = c .before .before .before .before .before .before in
-    omega (arith, s .pre .0 .bytes (s .args .v))
+element-copy-out-t40 : tie.Need-element-copy-out-t40
+element-copy-out-t40 c = let s = c .before .before .before .before .before .before in omega (arith, s .pre .0 .bytes (s .args .v))
 
-mul-t38 : tie.Need-mul-t38
-mul-t38 c =
-    let s = c .before .before .before .before .before .before .before .before in
-    omega (arith, s .pre .0 .bytes (s .args .v))
+mul-t12 : tie.Need-mul-t12
+mul-t12 c = let s = c .before .before .before .before .before .before .before .before in omega (arith, s .pre .0 .bytes (s .args .v))
 
-add-t39 : tie.Need-add-t39
-add-t39 c =
-    let s = c .before .before .before .before .before .before .before .before in
-    omega (arith, s .pre .0 .bytes (s .args .v))
+add-t15 : tie.Need-add-t15
+add-t15 c = let s = c .before .before .before .before .before .before .before .before in omega (arith, s .pre .0 .bytes (s .args .v))
 
-mul-t40 : tie.Need-mul-t40
-mul-t40 c =
-    let s = c .before .before .before .before .before .before .before .before in
-    omega (arith, s .pre .0 .bytes (s .args .v))
+mul-t42 : tie.Need-mul-t42
+mul-t42 c = let s = c .before .before .before .before .before .before .before .before in omega (arith, s .pre .0 .bytes (s .args .v))
 
-element-copy-out-t43 : tie.Need-element-copy-out-t43
-element-copy-out-t43 c =
-    let s = c .before .before .before .before .before .before .before .before in
-    omega (arith, s .pre .0 .bytes (s .args .v))
+element-copy-out-t45 : tie.Need-element-copy-out-t45
+element-copy-out-t45 c = let s = c .before .before .before .before .before .before .before .before in omega (arith, s .pre .0 .bytes (s .args .v))
 
 returns-2 : tie.Need-returns-2
-returns-2 c p =
+returns-2 c =
     let s = c .before .before .before .before .before .before .before .before .before .before in
-    rw (c .before .before .before .before .wide .ensures) (planned-set _ _ _ _ _ _ _ _ _ _ (s .args .v) (s .pre .0) (s .pre .1) p (c .before .before .before .before .before .if1 .left))
+    λ p.
+    let k = planned-blanked _ _ _ _ _ _ (s .args .v) _ _ (s .pre .0 .few) (omega (arith, s .pre .0 .few, s .pre .1)) p in
+    rw (c .before .before .before .before .wide .ensures) (planned-set _ _ _ _ _ _ _ _ _ _ (s .args .v) (lent-longer _ _ _ _ _ _ (omega (arith, k .0 .long)) (s .pre .0)) (s .pre .1) (k .0) (k .1) (c .before .before .before .before .before .if1 .left))
 
 pub taken-in-spec : {M : Type 1} → statement M
 taken-in-spec =
     tie.close
     (tie.spec
+    mul-plan
+    add-plan
+    add-plan-2
+    mul-plan-2
+    element-write-plan
     shared-slice-read-a
     mul-first
     mul-first-2
@@ -151,30 +159,30 @@ taken-in-spec =
     shared-slice-read-second
     shared-slice-read-plan
     cast-plan
-    mul-plan
-    mul-plan-2
-    element-write-plan
     mul-plan-3
-    add-plan
     mul-plan-4
     element-write-plan-2
     mul-plan-5
-    add-plan-2
+    add-plan-3
     mul-plan-6
     element-write-plan-3
     mul-plan-7
-    add-plan-3
+    add-plan-4
     mul-plan-8
     element-write-plan-4
+    mul-plan-9
+    add-plan-5
+    mul-plan-10
+    element-write-plan-5
     returns
     mul-row
     wide-requires
     add-row
-    mul-t32
-    mul-t33
-    element-copy-out-t36
-    mul-t38
-    add-t39
-    mul-t40
-    element-copy-out-t43
+    mul-t14
+    mul-t13
+    element-copy-out-t40
+    mul-t12
+    add-t15
+    mul-t42
+    element-copy-out-t45
     returns-2)

@@ -8,7 +8,7 @@ use borrow.Fn.Kinds.{In}
 use borrow.Fn.PlainCycle.{Measures, is, falls, and}
 use lib.ListN.{length, length-set}
 use Rattle.clauses.specs.Sets.{inSet}
-use Rattle.consistency.specs.Given.{Room}
+use Rattle.consistency.specs.Given.{Room, Any}
 use Rattle.consistency.proofs.Turns.{none-left, Turn, turn-first, turn-end, turn-stop, value, row-within, room-set, turn-again, deep-found, deep-stop, deep-again}
 use Rattle.consistency.proofs.search.descend.Reads as descend′
 use Rattle.consistency.proofs.search.descend.Kinds as descend-kinds
@@ -53,7 +53,7 @@ callees t = (
 
 abbrev descend-Inv-loop : descend-lts.InvT-loop
 descend-Inv-loop sizes sat last vals₀ held from used limit v size u₀ x₀ vals u x =
-    Turn 512 sizes (inSet sat) (inSet last) vals₀ (inSet held 0) from v used limit size vals u x × Room sizes sat last vals₀ from
+    Turn 512 Any sizes (inSet sat) (inSet last) vals₀ (inSet held 0) from v used limit size vals u x × Room sizes sat last vals₀ from
 
 abbrev descend-μ-loop : descend-lts.MeasureT-loop
 descend-μ-loop sizes sat last vals₀ held from used limit v size u₀ x₀ vals u x = size - x
@@ -69,7 +69,7 @@ module _ (t : ℕ) where
   descend-same-length c = refl
 
   descend-returns : descend-lts.Need-returns (callees t) (descend-at t) descend′.Post descend-Inv-loop descend-μ-loop
-  descend-returns c = none-left 512 _ _ _ _ _ _ (c .before .before .before .before .before .before .before .before .pre .1 .bytes) (c .before .before .next-free .ensures) (c .before .if1 .taken) _ _ _ _ (c .packed .ensures)
+  descend-returns c = none-left 512 _ _ _ _ _ _ _ (c .before .before .before .before .before .before .before .before .pre .1 .bytes) (c .before .before .next-free .ensures) (c .before .if1 .taken) _ _ _ _ (c .packed .ensures)
 
   descend-shared-slice-read-size : descend-lts.Need-shared-slice-read-size (callees t) (descend-at t) descend′.Post descend-Inv-loop descend-μ-loop
   descend-shared-slice-read-size c =
@@ -79,7 +79,7 @@ module _ (t : ℕ) where
   descend-loop-holds : descend-lts.Need-loop-holds (callees t) (descend-at t) descend′.Post descend-Inv-loop descend-μ-loop
   descend-loop-holds c =
       let p = c .before .before .before .before .before .before .before .before .pre .1 in
-      (turn-first 512 _ _ _ _ _ _ _ _ _ _ (p .bytes) (c .before .before .next-free .ensures) (c .before .if1 .left) refl, p)
+      (turn-first 512 _ _ _ _ _ _ _ _ _ _ _ (p .bytes) (c .before .before .next-free .ensures) (c .before .if1 .left) refl, p)
 
   descend-slice-write-vals : descend-lts.Need-slice-write-vals (callees t) (descend-at t) descend′.Post descend-Inv-loop descend-μ-loop
   descend-slice-write-vals c =
@@ -93,7 +93,7 @@ module _ (t : ℕ) where
   descend-same-length-2 c = simp length-set (c .before .before .before .loop .inv .0 .long)
 
   descend-returns-2 : descend-lts.Need-returns-2 (callees t) (descend-at t) descend′.Post descend-Inv-loop descend-μ-loop
-  descend-returns-2 c = turn-stop 512 _ _ _ _ _ _ _ _ _ _ _ _ _ (c .before .before .before .loop .inv .0) (c .before .before .loop-test .taken) (c .before .if2 .taken) _ (c .packed2 .ensures)
+  descend-returns-2 c = turn-stop 512 _ _ _ _ _ _ _ _ _ _ _ _ _ _ (c .before .before .before .loop .inv .0) (c .before .before .loop-test .taken) (c .before .if2 .taken) _ (c .packed2 .ensures)
 
   descend-slice-write-vals-2 : descend-lts.Need-slice-write-vals-2 (callees t) (descend-at t) descend′.Post descend-Inv-loop descend-μ-loop
   descend-slice-write-vals-2 c =
@@ -114,18 +114,18 @@ module _ (t : ℕ) where
   descend-add-row : descend-lts.Need-add-row (callees t) (descend-at t) descend′.Post descend-Inv-loop descend-μ-loop
   descend-add-row c =
       let h = c .before .before .before .loop .inv .0 in
-      omega (arith, c .wide .ensures, row-within 512 _ _ _ _ _ _ _ _ _ _ _ _ _ h (c .before .before .loop-test .taken))
+      omega (arith, c .wide .ensures, row-within 512 _ _ _ _ _ _ _ _ _ _ _ _ _ _ h (c .before .before .loop-test .taken))
 
   descend-covers-with-requires : descend-lts.Need-covers-with-requires (callees t) (descend-at t) descend′.Post descend-Inv-loop descend-μ-loop
   descend-covers-with-requires c κs =
       let h = c .before .before .before .loop .inv .0 in
       let long = c .before .before .before .loop .inv .1 in
-      (omega (arith, long .last-long, h .room .few, h .below), omega (arith, long .sat-long, c .wide .ensures, row-within 512 _ _ _ _ _ _ _ _ _ _ _ _ _ h (c .before .before .loop-test .taken)))
+      (omega (arith, long .last-long, h .room .few, h .below), omega (arith, long .sat-long, c .wide .ensures, row-within 512 _ _ _ _ _ _ _ _ _ _ _ _ _ _ h (c .before .before .loop-test .taken)))
 
   descend-joined-requires : descend-lts.Need-joined-requires (callees t) (descend-at t) descend′.Post descend-Inv-loop descend-μ-loop
   descend-joined-requires c κs =
       let h = c .before .before .before .before .before .loop .inv .0 in
-      omega (arith, c .before .before .before .before .before .loop .inv .1 .sat-long, c .before .before .wide .ensures, row-within 512 _ _ _ _ _ _ _ _ _ _ _ _ _ h (c .before .before .before .before .loop-test .taken))
+      omega (arith, c .before .before .before .before .before .loop .inv .1 .sat-long, c .before .before .wide .ensures, row-within 512 _ _ _ _ _ _ _ _ _ _ _ _ _ _ h (c .before .before .before .before .loop-test .taken))
 
   descend-add-descend : descend-lts.Need-add-descend (callees t) (descend-at t) descend′.Post descend-Inv-loop descend-μ-loop
   descend-add-descend c =
@@ -139,7 +139,7 @@ module _ (t : ℕ) where
       let long = c .before .before .before .before .before .before .before .loop .inv .1 in (
         omega (arith, h .below, n .after),
         record {
-          bytes = room-set 512 _ _ _ _ _ _ _ _ _ _ _ _ _ h (c .before .before .before .before .before .before .loop-test .taken);
+          bytes = room-set 512 _ _ _ _ _ _ _ _ _ _ _ _ _ _ h (c .before .before .before .before .before .before .loop-test .taken);
           sat-long = long .sat-long;
           last-long = long .last-long;
         },
@@ -161,7 +161,7 @@ module _ (t : ℕ) where
   descend-returns-3 c =
       let k = c .before .before .before .before .before .before .before .before .before .before .before in
       let p = c .before .before .before .before .before .before .before .descend in
-      deep-found 512 _ _ _ _ _ _ _ _ _ _ _ _ _ (k .before .before .before .before .loop .inv .0) (k .before .before .before .loop-test .taken) (k .before .before .if2 .left)
+      deep-found 512 _ _ _ _ _ _ _ _ _ _ _ _ _ _ (k .before .before .before .before .loop .inv .0) (k .before .before .before .loop-test .taken) (k .before .before .if2 .left)
       _ _ (rw (k .before .wide .ensures)) (k .covers-with .ensures) (c .before .before .before .before .before .before .before .before .before .before .if3 .taken) _ (c .before .before .before .before .before .before .before .before .before .joined .ensures .has)
       _ _ _ (p .ensures) (sym (c .before .before .before .before .unpacked .ensures) ∙ c .before .before .t .given .1) _ (c .packed3 .ensures)
 
@@ -184,7 +184,7 @@ module _ (t : ℕ) where
   descend-returns-4 c =
       let k = c .before .before .before .before .before .before .before .before .before .before .before in
       let p = c .before .before .before .before .before .before .before .descend in
-      deep-stop 512 _ _ _ _ _ _ _ _ _ _ _ _ _ (k .before .before .before .before .loop .inv .0) (k .before .before .before .loop-test .taken) (k .before .before .if2 .left)
+      deep-stop 512 _ _ _ _ _ _ _ _ _ _ _ _ _ _ (k .before .before .before .before .loop .inv .0) (k .before .before .before .loop-test .taken) (k .before .before .if2 .left)
       _ _ (rw (k .before .wide .ensures)) (k .covers-with .ensures) (c .before .before .before .before .before .before .before .before .before .before .if3 .taken) _ (c .before .before .before .before .before .before .before .before .before .joined .ensures .has)
       _ _ _ (p .ensures) (sym (c .before .before .before .before .unpacked .ensures) ∙ c .before .before .t2 .given .1) _ (c .packed4 .ensures)
 
@@ -192,7 +192,7 @@ module _ (t : ℕ) where
   descend-enum-known-t-3 c = search needs
 
   descend-add-x : descend-lts.Need-add-x (callees t) (descend-at t) descend′.Post descend-Inv-loop descend-μ-loop
-  descend-add-x c = omega (arith, value 512 _ _ _ _ _ _ _ _ _ _ _ _ _ (c .before .before .before .before .before .loop .inv .0) (c .before .before .before .before .loop-test .taken))
+  descend-add-x c = omega (arith, value 512 _ _ _ _ _ _ _ _ _ _ _ _ _ _ (c .before .before .before .before .before .loop .inv .0) (c .before .before .before .before .loop-test .taken))
 
   descend-loop-less : descend-lts.Need-loop-less (callees t) (descend-at t) descend′.Post descend-Inv-loop descend-μ-loop
   descend-loop-less c = omega arith
@@ -205,9 +205,9 @@ module _ (t : ℕ) where
       let ul = k .before .before .if2 .left in
       let e = k .before .wide .ensures in (
         ⊎-elim
-            (λ w. deep-again 512 _ _ _ _ _ _ _ _ _ _ _ _ _ h lt ul _ _ (rw e) (k .covers-with .ensures) (w .0 .taken) _ (w .1 .ensures .has)
+            (λ w. deep-again 512 _ _ _ _ _ _ _ _ _ _ _ _ _ _ h lt ul _ _ (rw e) (k .covers-with .ensures) (w .0 .taken) _ (w .1 .ensures .has)
             _ _ _ (w .3 .ensures) (sym (w .6 .ensures) ∙ w .8 .given .1) (w .3 .kept .1 .1 .1 .0) _ _ (w .10) (w .11))
-            (λ w. turn-again 512 _ _ _ _ _ _ _ _ _ _ _ _ _ h lt ul _ _ (rw e) (k .covers-with .ensures) (w .0 .left) _ _ (w .1) (w .2))
+            (λ w. turn-again 512 _ _ _ _ _ _ _ _ _ _ _ _ _ _ h lt ul _ _ (rw e) (k .covers-with .ensures) (w .0 .left) _ _ (w .1) (w .2))
             (c .if3 .came),
         k .before .before .before .before .loop .inv .1,
       )
@@ -224,7 +224,7 @@ module _ (t : ℕ) where
   descend-same-length-5 c = simp length-set (c .before .before .loop .inv .0 .long)
 
   descend-returns-5 : descend-lts.Need-returns-5 (callees t) (descend-at t) descend′.Post descend-Inv-loop descend-μ-loop
-  descend-returns-5 c = turn-end 512 _ _ _ _ _ _ _ _ _ _ _ _ _ (c .before .before .loop .inv .0) (c .before .loop-test .left) _ (c .packed5 .ensures)
+  descend-returns-5 c = turn-end 512 _ _ _ _ _ _ _ _ _ _ _ _ _ _ (c .before .before .loop .inv .0) (c .before .loop-test .left) _ (c .packed5 .ensures)
 
 pub +descend-spec : {M : Type 1} → statement M
 +descend-spec = close μ-descend λ t. descend-lts.spec (callees t)

@@ -69,7 +69,7 @@ loop-again c =
       m .kept .0 ∙ h .inv .1,
       h .inv .2,
       λ cs k. from-next 512 _ _ _ (omega arith) (h .v - 1) (h .inv .2 .few) (omega arith) (h .inv .2 .bytes (h .v - 1)) _ _ _ _ _ _
-          (λ e. m .ensures .here) (m .ensures .rest) (c .before .before .joined-if .ensures .has) (rw (c .before .wide .ensures) at (c .joined-if2 .ensures) .has) cs k (rw e at (h .inv .3 cs k)),
+          (λ e. m .ensures .here) (λ u c l. m .ensures .rest u c) (c .before .before .joined-if .ensures .has) (rw (c .before .wide .ensures) at (c .joined-if2 .ensures) .has) cs k (rw e at (h .inv .3 cs k)),
     )
 
 same-length : tie.Need-same-length Inv-loop μ-loop

@@ -12,21 +12,21 @@ use Rattle.listing.proofs.call.from_root.Statement.{statement}
 use Rattle.listing.proofs.call.from_root.Tie as tie
 
 root-requires : tie.Need-root-requires
-root-requires c κs = let b = c .before .before .before .before .before .before .before .before .before .before .pre .0 .tables .tabled in (tabled-few b, b .cost-room)
+root-requires c κs = let b = c .before .before .before .before .before .before .before .before .before .pre .0 .tables .tabled in (tabled-few b, b .cost-room)
 
 entry-of-requires : tie.Need-entry-of-requires
 entry-of-requires c κs = search needs
 
 push-requires : tie.Need-push-requires
-push-requires c κs = omega (arith, c .before .before .before .before .before .before .before .before .before .before .before .before .before .pre .0 .room .queue-room)
+push-requires c κs = omega (arith, c .before .before .before .before .before .before .before .before .before .before .before .before .pre .0 .room .queue-room)
 
 run-requires : tie.Need-run-requires
 run-requires c κs =
-    let t = c .before .before .before .before .before .before .before .before .before .before .before .before .before .before .before .before .before .before .before .before .before .pre .0 in
+    let t = c .before .before .before .before .before .before .before .before .before .before .before .before .before .before .before .before .before .before .before .before .pre .0 in
     let o = orderOf (t .plant) in
     let node = c .before .before .before .before .before .before .before .before .before .before .root .ensures (t .plant) _ _ _ (t .tables .tabled) (t .tables .preferred-is) in
     let entry = c .before .before .before .before .before .before .before .before .before .entry-of .ensures o (unassigned (decisionSizes (t .plant))) (node .mask-is) (node .code-is) (node .cost-is) in
-    start-steps t (c .before .before .before .before .before .before .before .before .before .before .before .before .before .before .before .before .before .before .before .before .before .pre .2) _ (c .before .before .before .before .before .before .before .push .kept .0) (c .before .before .before .before .before .before .before .push .ensures o [] (unassigned (decisionSizes (t .plant))) (holds-nothing o _) entry)
+    start-steps t (c .before .before .before .before .before .before .before .before .before .before .before .before .before .before .before .before .before .before .before .before .pre .2) _ (c .before .before .before .before .before .before .before .push .kept .0) (c .before .before .before .before .before .before .before .push .ensures o [] (unassigned (decisionSizes (t .plant))) (holds-nothing o _) entry)
 
 same-length : tie.Need-same-length
 same-length c = search needs
@@ -40,16 +40,13 @@ same-length-3 c = search needs
 same-length-4 : tie.Need-same-length-4
 same-length-4 c = search needs
 
-same-length-5 : tie.Need-same-length-5
-same-length-5 c = search needs
-
 returns : tie.Need-returns
 returns c t survivors s =
     let o = orderOf (t .plant) in
-    let node = c .before .before .before .before .before .before .before .before .before .before .before .before .before .before .before .before .before .before .before .before .before .root .ensures (t .plant) _ _ _ (t .tables .tabled) (t .tables .preferred-is) in
-    let entry = c .before .before .before .before .before .before .before .before .before .before .before .before .before .before .before .before .before .before .before .before .entry-of .ensures o (unassigned (decisionSizes (t .plant))) (node .mask-is) (node .code-is) (node .cost-is) in
-    let steps = start-steps t s _ (c .before .before .before .before .before .before .before .before .before .before .before .before .before .before .before .before .before .before .push .kept .0) (c .before .before .before .before .before .before .before .before .before .before .before .before .before .before .before .before .before .before .push .ensures o [] (unassigned (decisionSizes (t .plant))) (holds-nothing o _) entry) in
-    rw (← c .before .before .before .before .before .before .before .before .before .before .before .before .before .before .before .before .before .before .push .kept .0) (c .before .before .before .before .before .before .before .before .before .before .run .ensures steps (enoughSteps (decisionSizes (t .plant))) (start-enough (decisionSizes (t .plant)) survivors _))
+    let node = c .before .before .before .before .before .before .before .before .before .before .before .before .before .before .before .before .before .before .before .root .ensures (t .plant) _ _ _ (t .tables .tabled) (t .tables .preferred-is) in
+    let entry = c .before .before .before .before .before .before .before .before .before .before .before .before .before .before .before .before .before .before .entry-of .ensures o (unassigned (decisionSizes (t .plant))) (node .mask-is) (node .code-is) (node .cost-is) in
+    let steps = start-steps t s _ (c .before .before .before .before .before .before .before .before .before .before .before .before .before .before .before .before .push .kept .0) (c .before .before .before .before .before .before .before .before .before .before .before .before .before .before .before .before .push .ensures o [] (unassigned (decisionSizes (t .plant))) (holds-nothing o _) entry) in
+    rw (← c .before .before .before .before .before .before .before .before .before .before .before .before .before .before .before .before .push .kept .0) (c .before .before .before .before .before .before .before .before .run .ensures steps (enoughSteps (decisionSizes (t .plant))) (start-enough (decisionSizes (t .plant)) survivors _))
 
 pub from-root-spec : {M : Type 1} → statement M
 from-root-spec =
@@ -63,5 +60,4 @@ from-root-spec =
     same-length-2
     same-length-3
     same-length-4
-    same-length-5
     returns)

@@ -1,10 +1,8 @@
 -- `call::list_tables` meets its contract: the sets and the preferred values are made once, steps 1 to 7 run, and what they leave is answered. Assumes nothing.
-use mathlib.Core.Path.{sym}
 use native.Mathlib.Omega.{arith}
-use lib.Seq.{length-take-le}
 use Rattle.theory.proofs.Tables.{tabled-decisions, tabled-few, tabled-sized}
 use Rattle.clauses.proofs.Callers.{tables-more, zeros}
-use Rattle.conflict.proofs.Given.{tabled-limits}
+use Rattle.conflict.proofs.Given.{tabled-limits, plan-long}
 use Rattle.listing.proofs.Answering.{lists-of, finished-room, finished-called}
 use borrow.Author.Needs.{needs}
 use Rattle.listing.proofs.call.list_tables.Statement.{statement}
@@ -29,23 +27,17 @@ preferred-requires c κs =
 slice-aggregate-listing : tie.Need-slice-aggregate-listing
 slice-aggregate-listing c = search needs
 
-array-borrow-prefix-vals : tie.Need-array-borrow-prefix-vals
-array-borrow-prefix-vals c = tabled-limits (c .before .before .before .before .before .before .before .before .before .before .before .before .before .before .before .before .pre .0 .1) .few
-
-slice-aggregate-listing-2 : tie.Need-slice-aggregate-listing-2
-slice-aggregate-listing-2 c = sym (length-take-le _ _ (tabled-limits (c .before .before .before .before .before .before .before .before .before .before .before .before .before .before .before .before .before .pre .0 .1) .few))
-
 listing-requires : tie.Need-listing-requires
 listing-requires c κs = 
     let s = c .before .before .before .before .before .before .before .before .before .before .before .before .before .before .before .before .before .before .before .before .before in
     let t = s .pre .0 .1 in
-    lists-of t (c .before .before .before .before .before .before .before .before .before .before .prepare .ensures) (length-take-le _ _ (tabled-limits t .few)) (c .before .before .before .before .before .before .before .preferred .ensures _ _ _ t) (s .pre .1)
+    lists-of t (c .before .before .before .before .before .before .before .before .before .before .prepare .ensures) plan-long (c .before .before .before .before .before .before .before .preferred .ensures _ _ _ t) (s .pre .1)
 
 finish-requires : tie.Need-finish-requires
 finish-requires c κs = 
-    let s = c .before .before .before .before .before .before .before .before .before .before .before .before .before .before .before .before .before .before .before .before .before .before .before .before .before .before .before .before .before .before .before .before .before in
+    let s = c .before .before .before .before .before .before .before .before .before .before .before .before .before .before .before .before .before .before .before .before .before .before .before .before .before .before .before .before .before .before .before .before in
     let t = s .pre .0 .1 in
-    finished-room (c .before .before .before .before .before .before .before .before .before .before .before .listing .ensures (lists-of t (c .before .before .before .before .before .before .before .before .before .before .before .before .before .before .before .before .before .before .before .before .before .before .prepare .ensures) (length-take-le _ _ (tabled-limits t .few)) (c .before .before .before .before .before .before .before .before .before .before .before .before .before .before .before .before .before .before .before .preferred .ensures _ _ _ t) (s .pre .1)))
+    finished-room (c .before .before .before .before .before .before .before .before .before .before .listing .ensures (lists-of t (c .before .before .before .before .before .before .before .before .before .before .before .before .before .before .before .before .before .before .before .before .before .prepare .ensures) plan-long (c .before .before .before .before .before .before .before .before .before .before .before .before .before .before .before .before .before .before .preferred .ensures _ _ _ t) (s .pre .1)))
 
 same-length : tie.Need-same-length
 same-length c = search needs
@@ -61,9 +53,9 @@ same-length-4 c = search needs
 
 returns : tie.Need-returns
 returns c p t =
-    let s = c .before .before .before .before .before .before .before .before .before .before .before .before .before .before .before .before .before .before .before .before .before .before .before .before .before .before .before .before .before .before .before .before .before .before .before .before .before .before in
-    let l = c .before .before .before .before .before .before .before .before .before .before .before .before .before .before .before .before .listing in
-    let h = l .ensures (lists-of t (c .before .before .before .before .before .before .before .before .before .before .before .before .before .before .before .before .before .before .before .before .before .before .before .before .before .before .before .prepare .ensures) (length-take-le _ _ (tabled-limits t .few)) (c .before .before .before .before .before .before .before .before .before .before .before .before .before .before .before .before .before .before .before .before .before .before .before .before .preferred .ensures p _ _ t) (s .pre .1)) in
+    let s = c .before .before .before .before .before .before .before .before .before .before .before .before .before .before .before .before .before .before .before .before .before .before .before .before .before .before .before .before .before .before .before .before .before .before .before .before .before in
+    let l = c .before .before .before .before .before .before .before .before .before .before .before .before .before .before .before .listing in
+    let h = l .ensures (lists-of t (c .before .before .before .before .before .before .before .before .before .before .before .before .before .before .before .before .before .before .before .before .before .before .before .before .before .before .prepare .ensures) plan-long (c .before .before .before .before .before .before .before .before .before .before .before .before .before .before .before .before .before .before .before .before .before .before .before .preferred .ensures p _ _ t) (s .pre .1)) in
     finished-called p (s .args .k) (s .args .held) (s .args .limit) _ _ _ _ h (l .kept .1 .1 .1 .1 .1 .1 .1 .1 .1 .1 .1 .0) (l .kept .1 .1 .1 .1 .1 .1 .1 .1 .1 .1 .1 .1 .0) (c .before .before .before .before .finish .ensures)
 
 pub list-tables-spec : {M : Type 1} → statement M
@@ -75,8 +67,6 @@ list-tables-spec =
     prepare-requires
     preferred-requires
     slice-aggregate-listing
-    array-borrow-prefix-vals
-    slice-aggregate-listing-2
     listing-requires
     finish-requires
     same-length

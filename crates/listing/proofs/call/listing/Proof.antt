@@ -6,7 +6,7 @@ use Rattle.listing.proofs.call.listing.Statement.{statement}
 use Rattle.listing.proofs.call.listing.Tie as tie
 
 check-all-requires : tie.Need-check-all-requires
-check-all-requires c κs = let t = c .before .before .before .before .before .before .before .before .before .before .before .before .pre in (tabled-ready (t .tables .tabled) (t .tables .prepared) (t .tables .bytes), t .room .store-room)
+check-all-requires c κs = let t = c .before .before .before .before .before .before .before .before .before .before .before .pre in (tabled-ready (t .tables .tabled) (t .tables .prepared) (t .tables .planned), t .room .store-room)
 
 enum-known-m : tie.Need-enum-known-m
 enum-known-m c = search needs
@@ -16,18 +16,18 @@ enum-known-m-2 c = search needs
 
 from-root-requires : tie.Need-from-root-requires
 from-root-requires c κs =
-    let t = c .before .before .before .before .before .before .before .before .before .before .before .before .before .before .before .before .before .before .before .before .before .before .before .before .before .pre in
-    let o = rw (c .before .before .before .before .before .before .m2 .given .1) at (c .before .before .before .before .before .before .before .before .before .before .before .before .check-all .ensures (t .plant) _ (t .tables .tabled)) in
-    (lists-again t (c .before .before .before .before .before .before .before .before .before .before .before .before .check-all .kept .1 .1 .1 .1 .1 .1 .0), o .0, checked-survivors t _ o)
+    let t = c .before .before .before .before .before .before .before .before .before .before .before .before .before .before .before .before .before .before .before .before .before .before .pre in
+    let o = rw (c .before .before .before .before .before .before .m2 .given .1) at (c .before .before .before .before .before .before .before .before .before .before .check-all .ensures .0 (t .plant) _ (t .tables .tabled)) in
+    (lists-again t (c .before .before .before .before .before .before .before .before .before .before .check-all .ensures .1), o .0, checked-survivors t _ o)
 
 same-length : tie.Need-same-length
 same-length c = search needs
 
+returns : tie.Need-returns
+returns c t = broken-ends t _ (rw (c .before .m .given .1) at (c .before .before .before .before .before .check-all .ensures .0 (t .plant) _ (t .tables .tabled)))
+
 same-length-2 : tie.Need-same-length-2
 same-length-2 c = search needs
-
-returns : tie.Need-returns
-returns c t = broken-ends t _ (rw (c .before .m .given .1) at (c .before .before .before .before .before .before .before .check-all .ensures (t .plant) _ (t .tables .tabled)))
 
 same-length-3 : tie.Need-same-length-3
 same-length-3 c = search needs
@@ -38,16 +38,10 @@ same-length-4 c = search needs
 same-length-5 : tie.Need-same-length-5
 same-length-5 c = search needs
 
-same-length-6 : tie.Need-same-length-6
-same-length-6 c = search needs
-
-same-length-7 : tie.Need-same-length-7
-same-length-7 c = search needs
-
 returns-2 : tie.Need-returns-2
 returns-2 c t =
-    let o = rw (c .before .before .before .before .before .before .before .before .before .before .before .before .before .before .before .before .before .m2 .given .1) at (c .before .before .before .before .before .before .before .before .before .before .before .before .before .before .before .before .before .before .before .before .before .before .before .check-all .ensures (t .plant) _ (t .tables .tabled)) in
-    checked-ends t _ _ _ _ o _ (c .before .before .before .before .before .before .before .before .before .before .before .before .before .before .before .before .before .before .before .before .before .before .before .check-all .kept .1 .1 .1 .1 .1 .1 .1 .0) (c .before .before .before .before .before .before .before .before .before .before .from-root .ensures (lists-again t (c .before .before .before .before .before .before .before .before .before .before .before .before .before .before .before .before .before .before .before .before .before .before .before .check-all .kept .1 .1 .1 .1 .1 .1 .0)) (o .0) (checked-survivors t _ o))
+    let o = rw (c .before .before .before .before .before .before .before .before .before .before .before .before .before .before .before .m2 .given .1) at (c .before .before .before .before .before .before .before .before .before .before .before .before .before .before .before .before .before .before .before .check-all .ensures .0 (t .plant) _ (t .tables .tabled)) in
+    checked-ends t _ _ _ _ o _ (c .before .before .before .before .before .before .before .before .before .before .before .before .before .before .before .before .before .before .before .check-all .kept .1 .1 .1 .1 .1 .1 .1 .0) (c .before .before .before .before .before .before .before .before .from-root .ensures (lists-again t (c .before .before .before .before .before .before .before .before .before .before .before .before .before .before .before .before .before .before .before .check-all .ensures .1)) (o .0) (checked-survivors t _ o))
 
 pub listing-spec : {M : Type 1} → statement M
 listing-spec =
@@ -58,11 +52,9 @@ listing-spec =
     enum-known-m-2
     from-root-requires
     same-length
-    same-length-2
     returns
+    same-length-2
     same-length-3
     same-length-4
     same-length-5
-    same-length-6
-    same-length-7
     returns-2)

@@ -12,18 +12,18 @@ use Rattle.steps.proofs.offers.check_all.Statement.{statement}
 use Rattle.steps.proofs.offers.check_all.Tie as tie
 
 abbrev Inv-loop : tie.InvT-loop
-Inv-loop d sizes counts lits sat uses vals₀ store₀ held limit m₀ used₀ i₀ vals store m used i =
-    (length store ≡ length store₀) × (length vals ≡ length vals₀) × (m ≤ i) × (i ≤ held) × ForPlant d sizes counts lits (λ p. CheckedTo p limit held store₀ i store m used)
+Inv-loop d sizes counts lits sat uses plan₀ store₀ held limit m₀ used₀ i₀ plan store m used i =
+    (length store ≡ length store₀) × (length plan ≡ 438) × (m ≤ i) × (i ≤ held) × ForPlant d sizes counts lits (λ p. CheckedTo p limit held store₀ i store m used)
 
 abbrev μ-loop : tie.MeasureT-loop
-μ-loop d sizes counts lits sat uses vals₀ store₀ held limit m₀ used₀ i₀ vals store m used i = held - i
+μ-loop d sizes counts lits sat uses plan₀ store₀ held limit m₀ used₀ i₀ plan store m used i = held - i
 
 loop-holds : tie.Need-loop-holds Inv-loop μ-loop
-loop-holds c = (refl, refl, omega arith, omega arith, λ p costs t. checked-start (omega (arith, tabled-count t, tabled-few t)))
+loop-holds c = (refl, c .before .before .before .before .before .pre .0 .planned, omega arith, omega arith, λ p costs t. checked-start (omega (arith, tabled-count t, tabled-few t)))
 
 check-requires : tie.Need-check-requires Inv-loop μ-loop
 check-requires c κs = 
-    let s = c .before .before .before .before .before .before .before .before .before .before in
+    let s = c .before .before .before .before .before .before .before .before .before in
     let l = c .before .before .before .loop in
     (ready-again (s .pre .0) (l .inv .1), omega (arith, s .pre .1, l .inv .0, l .inv .3), l .inv .2)
 
@@ -31,18 +31,18 @@ enum-known-n : tie.Need-enum-known-n Inv-loop μ-loop
 enum-known-n c = search needs
 
 same-length : tie.Need-same-length Inv-loop μ-loop
-same-length c = c .before .before .before .before .before .before .before .check .kept .1 .1 .1 .1 .1 .1 .0 ∙ c .before .before .before .before .before .before .before .before .before .before .before .loop .inv .1
-
-same-length-2 : tie.Need-same-length-2 Inv-loop μ-loop
-same-length-2 c = c .before .before .before .before .before .before .before .check .kept .1 .1 .1 .1 .1 .1 .1 .0 ∙ c .before .before .before .before .before .before .before .before .before .before .before .loop .inv .0
+same-length c = c .before .before .before .before .before .check .kept .1 .1 .1 .1 .1 .1 .1 .0 ∙ c .before .before .before .before .before .before .before .before .before .loop .inv .0
 
 returns : tie.Need-returns Inv-loop μ-loop
-returns c p costs t =
-    let k = c .before .before .before .before .before .before .before .check in
-    let l = c .before .before .before .before .before .before .before .before .before .before .before .loop in
-    let s = c .before .before .before .before .before .before .before .before .before .before .before .before .before .before .before .before .before .before in
-    let h = l .inv .4 p costs t in
-    checked-broken h (c .before .n .given .1) (k .ensures .1 p costs t (s .args .held) (h .survivors) (c .before .before .before .before .before .before .before .before .before .before .loop-test .taken) (omega (arith, s .pre .1, l .inv .0)) (h .keeps))
+returns c =
+    let k = c .before .before .before .before .before .check in (
+      λ p costs t.
+          let l = c .before .before .before .before .before .before .before .before .before .loop in
+          let s = c .before .before .before .before .before .before .before .before .before .before .before .before .before .before .before in
+          let h = l .inv .4 p costs t in
+          checked-broken h (c .before .n .given .1) (k .ensures .1 .0 p costs t (s .args .held) (h .survivors) (c .before .before .before .before .before .before .before .before .loop-test .taken) (omega (arith, s .pre .1, l .inv .0)) (h .keeps)),
+      k .ensures .1 .1,
+    )
 
 enum-known-n-2 : tie.Need-enum-known-n-2 Inv-loop μ-loop
 enum-known-n-2 c = search needs
@@ -55,23 +55,20 @@ loop-less c = omega arith
 
 loop-again : tie.Need-loop-again Inv-loop μ-loop
 loop-again c =
-    let k = c .before .before .before .before .before .before .before .check in
-    let l = c .before .before .before .before .before .before .before .before .before .before .before .loop in
-    let s = c .before .before .before .before .before .before .before .before .before .before .before .before .before .before .before .before .before .before in
+    let k = c .before .before .before .before .before .check in
+    let l = c .before .before .before .before .before .before .before .before .before .loop in
+    let s = c .before .before .before .before .before .before .before .before .before .before .before .before .before .before .before in
     let e = c .before .n2 .given .1 in
     let few = rw e at (k .ensures .0) in
-    (k .kept .1 .1 .1 .1 .1 .1 .1 .0 ∙ l .inv .0, k .kept .1 .1 .1 .1 .1 .1 .0 ∙ l .inv .1, omega (arith, few, l .inv .2), omega (arith, c .before .before .before .before .before .before .before .before .before .before .loop-test .taken), λ p costs t.
+    (k .kept .1 .1 .1 .1 .1 .1 .1 .0 ∙ l .inv .0, k .ensures .1 .1, omega (arith, few, l .inv .2), omega (arith, c .before .before .before .before .before .before .before .before .loop-test .taken), λ p costs t.
         let h = l .inv .4 p costs t in
-        checked-next h e (k .ensures .1 p costs t (s .args .held) (h .survivors) (c .before .before .before .before .before .before .before .before .before .before .loop-test .taken) (omega (arith, s .pre .1, l .inv .0)) (h .keeps)))
+        checked-next h e (k .ensures .1 .0 p costs t (s .args .held) (h .survivors) (c .before .before .before .before .before .before .before .before .loop-test .taken) (omega (arith, s .pre .1, l .inv .0)) (h .keeps)))
 
-same-length-3 : tie.Need-same-length-3 Inv-loop μ-loop
-same-length-3 c = c .before .loop .inv .1
-
-same-length-4 : tie.Need-same-length-4 Inv-loop μ-loop
-same-length-4 c = c .before .loop .inv .0
+same-length-2 : tie.Need-same-length-2 Inv-loop μ-loop
+same-length-2 c = c .before .loop .inv .0
 
 returns-2 : tie.Need-returns-2 Inv-loop μ-loop
-returns-2 c p costs t = checked-end (c .before .loop .inv .4 p costs t) (omega arith)
+returns-2 c = (λ p costs t. checked-end (c .before .loop .inv .4 p costs t) (omega arith), c .before .loop .inv .1)
 
 pub check-all-spec : {M : Type 1} → statement M
 check-all-spec =
@@ -83,12 +80,10 @@ check-all-spec =
     check-requires
     enum-known-n
     same-length
-    same-length-2
     returns
     enum-known-n-2
     add-i
     loop-less
     loop-again
-    same-length-3
-    same-length-4
+    same-length-2
     returns-2)

@@ -6,10 +6,10 @@ use Rattle.steps.proofs.run.step.Statement.{statement}
 use Rattle.steps.proofs.run.step.Tie as tie
 
 returns : tie.Need-returns
-returns c t = step-enough t (omega arith)
+returns c = (λ t. step-enough t (omega arith), c .before .before .before .before .before .before .before .before .before .before .before .pre .tables .planned)
 
 returns-2 : tie.Need-returns-2
-returns-2 c t = step-all t (omega arith) (omega arith)
+returns-2 c = (λ t. step-all t (omega arith) (omega arith), c .before .before .before .before .before .before .before .before .before .before .before .before .before .pre .tables .planned)
 
 pop-requires : tie.Need-pop-requires
 pop-requires c κs = search needs
@@ -23,7 +23,7 @@ from-entry-requires c κs = search needs
 expand-requires : tie.Need-expand-requires
 expand-requires c κs =
     let p = c .before .before .before .before .before .before .before .before .before .pop in
-    removes (c .before .before .before .before .before .before .before .before .before .before .before .before .before .before .before .before .before .before .before .before .before .before .before .before .before .pre) (omega arith) (omega arith) _ (p .kept .0) _ _ _ (p .ensures) (c .from-entry .ensures)
+    removes (c .before .before .before .before .before .before .before .before .before .before .before .before .before .before .before .before .before .before .before .before .before .before .before .before .pre) (omega arith) (omega arith) _ (p .kept .0) _ _ _ (p .ensures) (c .from-entry .ensures)
 
 same-length : tie.Need-same-length
 same-length c = search needs
@@ -37,17 +37,17 @@ same-length-3 c = search needs
 same-length-4 : tie.Need-same-length-4
 same-length-4 c = search needs
 
-same-length-5 : tie.Need-same-length-5
-same-length-5 c = search needs
-
 returns-3 : tie.Need-returns-3
-returns-3 c t =
-    let a = c .before .before .before .before .before .before .before .before .before .before .before .before .before .before .before .before .before .before .before .before in
-    let n = c .before .before .before .before .before .before .before .before .before .before .before .from-entry in
-    let wanting = a .before .before .before .before .if1 .left in
-    let filled = a .before .before .if2 .left in
-    rw (step-removed t (omega (arith, wanting)) (omega (arith, filled)) _ (a .pop .kept .0) _ _ _ (a .pop .ensures) (n .ensures)) at
-    (c .before .before .before .before .before .before .before .before .before .before .expand .ensures (removes t (omega (arith, wanting)) (omega (arith, filled)) _ (a .pop .kept .0) _ _ _ (a .pop .ensures) (n .ensures)))
+returns-3 c = (
+  λ t.
+      let a = c .before .before .before .before .before .before .before .before .before .before .before .before .before .before .before .before .before .before in
+      let n = c .before .before .before .before .before .before .before .before .before .from-entry in
+      let wanting = a .before .before .before .before .if1 .left in
+      let filled = a .before .before .if2 .left in
+      rw (step-removed t (omega (arith, wanting)) (omega (arith, filled)) _ (a .pop .kept .0) _ _ _ (a .pop .ensures) (n .ensures)) at
+      (c .before .before .before .before .before .before .before .before .expand .ensures .0 (removes t (omega (arith, wanting)) (omega (arith, filled)) _ (a .pop .kept .0) _ _ _ (a .pop .ensures) (n .ensures))),
+  c .before .before .before .before .before .before .before .before .expand .ensures .1,
+)
 
 pub step-spec : {M : Type 1} → statement M
 step-spec =
@@ -63,5 +63,4 @@ step-spec =
     same-length-2
     same-length-3
     same-length-4
-    same-length-5
     returns-3)
