@@ -67,7 +67,10 @@ pub fn given(node: Node, v: usize, x: usize, preferred: u64, costs: &[u16]) -> N
     Node {
         mask: node.mask | (1 << (63 - v)),
         code: (node.code ^ ((old as u64) << place)) | ((x as u64) << place),
-        cost: std::num::wrapping_add_u32(std::num::wrapping_sub_u32(node.cost, price(costs, v, old)), price(costs, v, x)),
+        cost: std::num::wrapping_add_u32(
+            std::num::wrapping_sub_u32(node.cost, price(costs, v, old)),
+            price(costs, v, x),
+        ),
     }
 }
 
@@ -89,7 +92,18 @@ pub fn put_one(node: Node, queue: &mut [u64], n: usize, store: &[u64], m: usize)
 }
 
 // Puts the node with its unassigned variable v at the value x, unless that is the value `but`.
-fn put_value(node: Node, v: usize, x: usize, but: usize, preferred: u64, costs: &[u16], queue: &mut [u64], n: usize, store: &[u64], m: usize) -> Put
+fn put_value(
+    node: Node,
+    v: usize,
+    x: usize,
+    but: usize,
+    preferred: u64,
+    costs: &[u16],
+    queue: &mut [u64],
+    n: usize,
+    store: &[u64],
+    m: usize,
+) -> Put
     requires { ⌜ (v < 16) × (x < 16) × (16 * v + 16 ≤ length (now costs)) × (2 * m ≤ length (now store)) ⌝ }
     ensures { λ r. ⌜ ((s : Step node (now (queue .entry)) n (now (store .entry)) m) → Free (s .plant) (s .parent) v (now (costs .entry)) preferred → x < getD (decisionSizes (s .plant)) v 0
         → Puts s (variants (s .parent) v but (x ∷ [])) (now (queue .exit)) r) ⌝ }
@@ -101,7 +115,18 @@ fn put_value(node: Node, v: usize, x: usize, but: usize, preferred: u64, costs: 
 }
 
 // Puts the node with its unassigned variable v at each value of its domain but one; 16 is no value.
-fn put_values(node: Node, v: usize, size: usize, but: usize, preferred: u64, costs: &[u16], queue: &mut [u64], n: usize, store: &[u64], m: usize) -> Put
+fn put_values(
+    node: Node,
+    v: usize,
+    size: usize,
+    but: usize,
+    preferred: u64,
+    costs: &[u16],
+    queue: &mut [u64],
+    n: usize,
+    store: &[u64],
+    m: usize,
+) -> Put
     requires { ⌜ (v < 16) × (size ≤ 16) × (16 * v + 16 ≤ length (now costs)) × (2 * m ≤ length (now store)) ⌝ }
     ensures { λ r. ⌜ ((s : Step node (now (queue .entry)) n (now (store .entry)) m) → Free (s .plant) (s .parent) v (now (costs .entry)) preferred → size ≡ getD (decisionSizes (s .plant)) v 0
         → Puts s (variants (s .parent) v but (valuesFrom 0 size)) (now (queue .exit)) r) ⌝ }
@@ -109,7 +134,18 @@ fn put_values(node: Node, v: usize, size: usize, but: usize, preferred: u64, cos
     let mut entries = n;
     let mut x = 0;
     while x < size {
-        let Put::Entries(more) = put_value(node, v, x, but, preferred, costs, queue, entries, store, m) else {
+        let Put::Entries(more) = put_value(
+            node,
+            v,
+            x,
+            but,
+            preferred,
+            costs,
+            queue,
+            entries,
+            store,
+            m,
+        ) else {
             return Put::Full;
         };
         entries = more;
@@ -141,7 +177,17 @@ fn lowest_free(mask: u64, d: usize) -> usize
 }
 
 // Step 5: puts the node with its lowest unassigned variable at each value.
-pub fn branch(sizes: &[u8], costs: &[u16], preferred: u64, d: usize, node: Node, queue: &mut [u64], n: usize, store: &[u64], m: usize) -> Put
+pub fn branch(
+    sizes: &[u8],
+    costs: &[u16],
+    preferred: u64,
+    d: usize,
+    node: Node,
+    queue: &mut [u64],
+    n: usize,
+    store: &[u64],
+    m: usize,
+) -> Put
     requires { ⌜ (d ≤ 16) × (d ≤ length (now sizes)) × (16 * d ≤ length (now costs)) × All Sized (take d (now sizes)) × (2 * m ≤ length (now store)) ⌝ }
     ensures { λ r. ⌜ ((s : Step node (now (queue .entry)) n (now (store .entry)) m) → Tables (s .plant) d (now (sizes .entry)) (now (costs .entry)) preferred
         → Puts s (branching (decisionSizes (s .plant)) (s .parent)) (now (queue .exit)) r) ⌝ }
@@ -150,7 +196,18 @@ pub fn branch(sizes: &[u8], costs: &[u16], preferred: u64, d: usize, node: Node,
     if v == d {
         return Put::Entries(n);
     }
-    put_values(node, v, index(sizes[v]), 16, preferred, costs, queue, n, store, m)
+    put_values(
+        node,
+        v,
+        index(sizes[v]),
+        16,
+        preferred,
+        costs,
+        queue,
+        n,
+        store,
+        m,
+    )
 }
 
 // The conflict's value for a variable that the node leaves unassigned, or 16.
@@ -165,7 +222,19 @@ fn wanted(node_mask: u64, mask: u64, values: u64, v: usize) -> usize
 }
 
 // Step 4: for each unassigned member of the conflict with these words in turn, puts the node with it at each other value and the members before it at the conflict's values.
-pub fn resolve(sizes: &[u8], costs: &[u16], preferred: u64, d: usize, node: Node, mask: u64, values: u64, queue: &mut [u64], n: usize, store: &[u64], m: usize) -> Put
+pub fn resolve(
+    sizes: &[u8],
+    costs: &[u16],
+    preferred: u64,
+    d: usize,
+    node: Node,
+    mask: u64,
+    values: u64,
+    queue: &mut [u64],
+    n: usize,
+    store: &[u64],
+    m: usize,
+) -> Put
     requires { ⌜ (d ≤ 16) × (d ≤ length (now sizes)) × (16 * d ≤ length (now costs)) × All Sized (take d (now sizes)) × (2 * m ≤ length (now store)) ⌝ }
     ensures { λ r. ⌜ ((s : Step node (now (queue .entry)) n (now (store .entry)) m) → Tables (s .plant) d (now (sizes .entry)) (now (costs .entry)) preferred
         → (c : Assignment) → Words c mask values → Valid (decisionSizes (s .plant)) c → Puts s (resolving (decisionSizes (s .plant)) (s .parent) c) (now (queue .exit)) r) ⌝ }
@@ -176,7 +245,18 @@ pub fn resolve(sizes: &[u8], costs: &[u16], preferred: u64, d: usize, node: Node
     while v < d {
         let y = wanted(passed.mask, mask, values, v);
         if y < 16 {
-            let Put::Entries(more) = put_values(passed, v, index(sizes[v]), y, preferred, costs, queue, entries, store, m) else {
+            let Put::Entries(more) = put_values(
+                passed,
+                v,
+                index(sizes[v]),
+                y,
+                preferred,
+                costs,
+                queue,
+                entries,
+                store,
+                m,
+            ) else {
                 return Put::Full;
             };
             entries = more;

@@ -67,8 +67,8 @@ filled-set (b ∷ vals) plan place zero x h e l r =
     let z : place + 0 * 4 ≡ place = omega arith in
     let m : x % 256 ≡ x = omega arith in
     let noted : filledFrom (b ∷ vals) (set plan place x) place ≡ x ∷ filledFrom vals plan (place + 4)
-        = fill-free b vals (set plan place x) place e
-        ∙ ap₂ _∷_ (ap (λ (w : ℕ). w % 256) (getD-set-same plan place x 0 (omega arith)) ∙ m) (filled-before vals plan (place + 4) place x (omega arith)) in
+    = fill-free b vals (set plan place x) place e
+    ∙ ap₂ _∷_ (ap (λ (w : ℕ). w % 256) (getD-set-same plan place x 0 (omega arith)) ∙ m) (filled-before vals plan (place + 4) place x (omega arith)) in
     fill-set x vals plan place (λ q. omega arith) ∙ sym noted ∙ ap (λ (k : ℕ). filledFrom (b ∷ vals) (set plan k x) place) (sym z)
 filled-set (b ∷ vals) plan place (suc v) x h e l r =
     let z : place + suc v * 4 ≡ place + 4 + v * 4 = omega arith in

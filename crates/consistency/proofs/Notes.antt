@@ -155,8 +155,10 @@ pair-cut needs1 needs2 first second c h e = elim (decLt c 64) [
 
 -- what is recalled is of a set that is alike
 alike-recalled : {plan : List ℕ} {v first second r : ℕ} → Recalled plan v first second r → r < 4294967296 → Alike (needed plan v) (hadThen plan v) (inPair first second)
-alike-recalled {plan} {v} {first} {second} c h = record { same = λ k l e.
-    sym (had-words plan v k l ∙ rw (← c .first-same h, ← c .second-same h) (pair-cut (getD plan (193 + v * 5) 0) (getD plan (193 + v * 5 + 1) 0) first second k l (sym (needed-words plan v k l) ∙ e))) }
+alike-recalled {plan} {v} {first} {second} c h = record {
+  same = λ k l e.
+      sym (had-words plan v k l ∙ rw (← c .first-same h, ← c .second-same h) (pair-cut (getD plan (193 + v * 5) 0) (getD plan (193 + v * 5 + 1) 0) first second k l (sym (needed-words plan v k l) ∙ e)));
+}
 
 module _ (plan : List ℕ) (v needs1 needs2 had1 had2 t : ℕ) where
   abbrev one : List ℕ
@@ -203,21 +205,21 @@ module _ (plan : List ℕ) (v needs1 needs2 had1 had2 t : ℕ) where
     needed-here : (c : ℕ) → c < 128 → needed all v c ≡ inPair needs1 needs2 c
     needed-here c h =
         let a : getD all (193 + v * 5) 0 ≡ needs1
-            = getD-set-other four (193 + v * 5 + 4) (193 + v * 5) t 0 (λ e. omega arith) ∙ getD-set-other three (193 + v * 5 + 3) (193 + v * 5) had2 0 (λ e. omega arith)
-            ∙ getD-set-other two (193 + v * 5 + 2) (193 + v * 5) had1 0 (λ e. omega arith) ∙ getD-set-other one (193 + v * 5 + 1) (193 + v * 5) needs2 0 (λ e. omega arith)
-            ∙ getD-set-same plan (193 + v * 5) needs1 0 (omega arith) in
+        = getD-set-other four (193 + v * 5 + 4) (193 + v * 5) t 0 (λ e. omega arith) ∙ getD-set-other three (193 + v * 5 + 3) (193 + v * 5) had2 0 (λ e. omega arith)
+        ∙ getD-set-other two (193 + v * 5 + 2) (193 + v * 5) had1 0 (λ e. omega arith) ∙ getD-set-other one (193 + v * 5 + 1) (193 + v * 5) needs2 0 (λ e. omega arith)
+        ∙ getD-set-same plan (193 + v * 5) needs1 0 (omega arith) in
         let b : getD all (193 + v * 5 + 1) 0 ≡ needs2
-            = getD-set-other four (193 + v * 5 + 4) (193 + v * 5 + 1) t 0 (λ e. omega arith) ∙ getD-set-other three (193 + v * 5 + 3) (193 + v * 5 + 1) had2 0 (λ e. omega arith)
-            ∙ getD-set-other two (193 + v * 5 + 2) (193 + v * 5 + 1) had1 0 (λ e. omega arith) ∙ getD-set-same one (193 + v * 5 + 1) needs2 0 (simp length-set (omega arith)) in
+        = getD-set-other four (193 + v * 5 + 4) (193 + v * 5 + 1) t 0 (λ e. omega arith) ∙ getD-set-other three (193 + v * 5 + 3) (193 + v * 5 + 1) had2 0 (λ e. omega arith)
+        ∙ getD-set-other two (193 + v * 5 + 2) (193 + v * 5 + 1) had1 0 (λ e. omega arith) ∙ getD-set-same one (193 + v * 5 + 1) needs2 0 (simp length-set (omega arith)) in
         needed-words all v c h ∙ rw (a, b)
 
     had-here : (c : ℕ) → c < 128 → hadThen all v c ≡ inPair had1 had2 c
     had-here c h =
         let a : getD all (193 + v * 5 + 2) 0 ≡ had1
-            = getD-set-other four (193 + v * 5 + 4) (193 + v * 5 + 2) t 0 (λ e. omega arith) ∙ getD-set-other three (193 + v * 5 + 3) (193 + v * 5 + 2) had2 0 (λ e. omega arith)
-            ∙ getD-set-same two (193 + v * 5 + 2) had1 0 (simp length-set (omega arith)) in
+        = getD-set-other four (193 + v * 5 + 4) (193 + v * 5 + 2) t 0 (λ e. omega arith) ∙ getD-set-other three (193 + v * 5 + 3) (193 + v * 5 + 2) had2 0 (λ e. omega arith)
+        ∙ getD-set-same two (193 + v * 5 + 2) had1 0 (simp length-set (omega arith)) in
         let b : getD all (193 + v * 5 + 3) 0 ≡ had2
-            = getD-set-other four (193 + v * 5 + 4) (193 + v * 5 + 3) t 0 (λ e. omega arith) ∙ getD-set-same three (193 + v * 5 + 3) had2 0 (simp length-set (omega arith)) in
+        = getD-set-other four (193 + v * 5 + 4) (193 + v * 5 + 3) t 0 (λ e. omega arith) ∙ getD-set-same three (193 + v * 5 + 3) had2 0 (simp length-set (omega arith)) in
         had-words all v c h ∙ rw (a, b)
 
     trials-here : trialsThen all v ≡ t
@@ -228,10 +230,12 @@ module _ (plan : List ℕ) (v needs1 needs2 had1 had2 t : ℕ) where
 -- for another plan with the same rows, and the same clauses and trials
 refuted-same : {cs : List (List Literal)} {sizes sat plan after : List ℕ} {v t t′ : ℕ} {needs needs′ had had′ : ℕ → Bool} → SameBefore 193 plan after
     → ((c : ℕ) → c < 128 → needs′ c ≡ needs c) → ((c : ℕ) → c < 128 → had′ c ≡ had c) → t′ ≡ t → Refuted cs sizes sat plan v needs had t → Refuted cs sizes sat after v needs′ had′ t′
-refuted-same {sat = sat} s n h e r = record { says = λ vals inHeld used limit p w a b.
-    let back = same-back s in
-    rw e (r .says vals inHeld used limit (plan-for-same back p) (stands-same back sat (omega (arith, p .bytes .few, p .bytes .same)) tt w)
-    record { same = λ c l i. a .same c l (n c l ∙ i) ∙ h c l } (rw e at b)) }
+refuted-same {sat = sat} s n h e r = record {
+  says = λ vals inHeld used limit p w a b.
+      let back = same-back s in
+      rw e (r .says vals inHeld used limit (plan-for-same back p) (stands-same back sat (omega (arith, p .bytes .few, p .bytes .same)) tt w)
+      record { same = λ c l i. a .same c l (n c l ∙ i) ∙ h c l } (rw e at b));
+}
 
 -- nothing is noted in a new plan
 pub knows-none : (sizes sat plan : List ℕ) (cs : List (List Literal)) → ((v : ℕ) → v < length sizes → trialsThen plan v ≡ 4294967296) → Knows sizes sat plan cs
@@ -241,12 +245,14 @@ knows-none sizes sat plan cs h = record { right = λ v l b. absurd (omega (arith
 refuted-here : {cs : List (List Literal)} {sizes sat plan : List ℕ} (v left rest needs1 needs2 first second : ℕ) (after : List ℕ) → Knows sizes sat plan cs
     → ((inOther : ℕ → Bool) → Alike (inPair needs1 needs2) (inPair first second) inOther → Finds sat plan inOther v left after (Inconsistent rest))
     → Refuted cs sizes sat plan v (inPair needs1 needs2) (inPair (bitAnd needs1 first) (bitAnd needs2 second)) (left - rest)
-refuted-here {cs} {sizes} {sat} {plan} v left rest needs1 needs2 first second after k f = record { says = λ vals inHeld used limit p w a b.
-    let e : left ≡ used + left - used = omega arith in
-    let g = f inHeld record { same = λ c l i. a .same c l i ∙ pair-cut needs1 needs2 first second c l i } sizes vals used (used + left) p e cs
-        (stands-same (same-refl plan) sat (omega (arith, p .bytes .few, p .bytes .same)) k w) in
-    explore-refuted cs (used + left) limit sizes (length sizes - v) v used (used + (left - rest)) (map given vals)
-    (was-inconsistent _ vals _ (used + (left - rest)) _ g (told-inconsistent used left rest (Inconsistent rest) refl) .0) b }
+refuted-here {cs} {sizes} {sat} {plan} v left rest needs1 needs2 first second after k f = record {
+  says = λ vals inHeld used limit p w a b.
+      let e : left ≡ used + left - used = omega arith in
+      let g = f inHeld record { same = λ c l i. a .same c l i ∙ pair-cut needs1 needs2 first second c l i } sizes vals used (used + left) p e cs
+      (stands-same (same-refl plan) sat (omega (arith, p .bytes .few, p .bytes .same)) k w) in
+      explore-refuted cs (used + left) limit sizes (length sizes - v) v used (used + (left - rest)) (map given vals)
+      (was-inconsistent _ vals _ (used + (left - rest)) _ g (told-inconsistent used left rest (Inconsistent rest) refl) .0) b;
+}
 
 -- ---- what the search answers
 
@@ -259,7 +265,7 @@ module _ (sat plan : List ℕ) (first second v left : ℕ) (below : v < 48) wher
       let y = c .noted-here (omega arith) in
       let d = alike-recalled c (omega arith) in
       let g = s .known .right v (before-end sizes vals plan v p n) (omega arith) .says vals inOther used limit p (stands-same (same-refl plan) sat (omega (arith, p .bytes .few, p .bytes .same)) tt s)
-          record { same = λ k b i. a .same k b i ∙ d .same k b i } (omega arith) in
+      record { same = λ k b i. a .same k b i ∙ d .same k b i } (omega arith) in
       let z : used + (left - (left - known)) ≡ used + trialsThen plan v = omega arith in
       as-inconsistent (explore cs limit sizes (length sizes - v) v used (map given vals)) vals vals (used + (left - (left - known))) (g ∙ rw z) refl
 

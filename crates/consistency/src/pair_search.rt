@@ -29,7 +29,15 @@ pub struct Sets {
 }
 
 // Takes in the variable v, after those behind it.
-fn taken_in(s: Sets, sizes: &[u8], vals: &[u8], sat: &[u64; 6144], uses: &[u64], plan: &mut [u64; 438], v: usize) -> Sets
+fn taken_in(
+    s: Sets,
+    sizes: &[u8],
+    vals: &[u8],
+    sat: &[u64; 6144],
+    uses: &[u64],
+    plan: &mut [u64; 438],
+    v: usize,
+) -> Sets
     requires { ⌜ Lent 438 (now vals) (now sat) (now uses) (now plan) × (v < length (now vals)) × (length (now vals) ≡ length (now sizes)) ⌝ }
     ensures { λ r. ⌜ (Planned (now (sizes .entry)) (now (vals .entry)) (now (sat .entry)) (now (uses .entry)) (now (plan .entry)) (s .next) (inPair (s .held1) (s .held2)) (inPair (s .open1) (s .open2)) (v + 1)
         → Planned (now (sizes .entry)) (now (vals .entry)) (now (sat .entry)) (now (uses .entry)) (now (plan .exit)) (r .next) (inPair (r .held1) (r .held2)) (inPair (r .open1) (r .open2)) v) ⌝ }
@@ -62,7 +70,13 @@ fn taken_in(s: Sets, sizes: &[u8], vals: &[u8], sat: &[u64; 6144], uses: &[u64],
 }
 
 // Makes the plan, from the last variable to the first.
-pub fn start(sizes: &[u8], vals: &[u8], sat: &[u64; 6144], uses: &[u64], plan: &mut [u64; 438]) -> Sets
+pub fn start(
+    sizes: &[u8],
+    vals: &[u8],
+    sat: &[u64; 6144],
+    uses: &[u64],
+    plan: &mut [u64; 438],
+) -> Sets
     requires { ⌜ Lent 438 (now vals) (now sat) (now uses) (now plan) × (length (now vals) ≡ length (now sizes)) × (length (now plan) ≡ 438) ⌝ }
     ensures { λ r. ⌜ Planned (now (sizes .entry)) (now (vals .entry)) (now (sat .entry)) (now (uses .entry)) (now (plan .exit)) (r .next) (inPair (r .held1) (r .held2)) (inPair (r .open1) (r .open2)) 0 ⌝ }
 {
@@ -115,7 +129,15 @@ fn recall(plan: &[u64; 438], v: usize, first: u64, second: u64) -> u64
 }
 
 // Notes that the search found no values from v on, by so many trials, going by the clauses of the first two words.
-fn note(plan: &mut [u64; 438], v: usize, needs1: u64, needs2: u64, first: u64, second: u64, trials: u32)
+fn note(
+    plan: &mut [u64; 438],
+    v: usize,
+    needs1: u64,
+    needs2: u64,
+    first: u64,
+    second: u64,
+    trials: u32,
+)
     requires { ⌜ v < 48 ⌝ }
     ensures { λ _. ⌜ now (plan .exit) ≡ noted (now (plan .entry)) v needs1 needs2 (bitAnd needs1 first) (bitAnd needs2 second) trials ⌝ }
 {
@@ -128,7 +150,14 @@ fn note(plan: &mut [u64; 438], v: usize, needs1: u64, needs2: u64, first: u64, s
 }
 
 // Goes through the unassigned variables from v on, with so many trials left. A number from 2^32 on says that it did not fail.
-fn descend(sat: &[u64; 6144], plan: &mut [u64; 438], first: u64, second: u64, v: usize, left: u32) -> u64
+fn descend(
+    sat: &[u64; 6144],
+    plan: &mut [u64; 438],
+    first: u64,
+    second: u64,
+    v: usize,
+    left: u32,
+) -> u64
     requires { ⌜ Searchable (now plan) v ⌝ }
     ensures { λ r. ⌜ Found (now (sat .entry)) (now (plan .entry)) (inPair first second) v left (now (plan .exit)) (answerIn r) ⌝ }
 {
@@ -189,7 +218,15 @@ fn with_trials_made(a: Answer, used: u32, left: u32) -> Answer
 }
 
 // Goes through the unassigned variables from v on.
-pub fn search(sat: &[u64; 6144], plan: &mut [u64; 438], first: u64, second: u64, v: usize, used: u32, limit: u32) -> Answer
+pub fn search(
+    sat: &[u64; 6144],
+    plan: &mut [u64; 438],
+    first: u64,
+    second: u64,
+    v: usize,
+    used: u32,
+    limit: u32,
+) -> Answer
     requires { ⌜ Searchable (now plan) v ⌝ }
     ensures finds { λ r. ⌜ ((sizes vals : List ℕ) → PlanFor sizes vals (now (plan .entry)) v
         → Searches 128 (Knows sizes (now (sat .entry)) (now (plan .entry))) sizes (inSet (now (sat .entry))) (inPlan (now (plan .entry))) vals (inPair first second) v used limit (afterwards vals (now (plan .exit)) r) r) ⌝ }

@@ -76,7 +76,7 @@ fn from_root(
     ensures { λ r. ⌜ ((t : Lists d (now (sizes .entry)) (now (prices .entry)) (now (counts .entry)) (now (lits .entry)) (now (sat .entry)) (now (uses .entry)) (now (plan .entry)) preferred k 0 (buffers (now (codes .entry)) (now (costs .entry)) (now (queue .entry)) (now (store .entry))))
         (survivors : List Assignment) → Survivors (t .plant) limit survivors used (now (store .entry)) stored
         → FinishedAs (question (t .plant) k (now (codes .entry)) (now (costs .entry))) (now (store .exit)) (now (codes .exit)) (now (costs .exit)) r
-          (run (t .plant) (orderOf (t .plant)) k (length (now (queue .entry)) / 2) (length (now (store .entry)) / 2) limit (enoughSteps (decisionSizes (t .plant))) (start (decisionSizes (t .plant)) survivors used))) ⌝ }
+        (run (t .plant) (orderOf (t .plant)) k (length (now (queue .entry)) / 2) (length (now (store .entry)) / 2) limit (enoughSteps (decisionSizes (t .plant))) (start (decisionSizes (t .plant)) survivors used))) ⌝ }
 {
     let node = root(preferred, prices, d);
     let e = queue::entry_of(node.mask, node.code, node.cost);
@@ -131,7 +131,7 @@ fn listing(
     requires { ⌜ Lists d (now sizes) (now prices) (now counts) (now lits) (now sat) (now uses) (now plan) preferred k held (buffers (now codes) (now costs) (now queue) (now store)) ⌝ }
     ensures { λ r. ⌜ ((t : Lists d (now (sizes .entry)) (now (prices .entry)) (now (counts .entry)) (now (lits .entry)) (now (sat .entry)) (now (uses .entry)) (now (plan .entry)) preferred k held (buffers (now (codes .entry)) (now (costs .entry)) (now (queue .entry)) (now (store .entry))))
         → FinishedAs (question (t .plant) k (now (codes .entry)) (now (costs .entry))) (now (store .exit)) (now (codes .exit)) (now (costs .exit)) r
-          (listing (t .plant) (orderOf (t .plant)) k (length (now (queue .entry)) / 2) (length (now (store .entry)) / 2) (offersOf held (now (store .entry))) limit)) ⌝ }
+        (listing (t .plant) (orderOf (t .plant)) k (length (now (queue .entry)) / 2) (length (now (store .entry)) / 2) (offersOf held (now (store .entry))) limit)) ⌝ }
 {
     match check_all(d, sizes, counts, lits, sat, uses, plan, store, held, limit) {
         Offered::BrokenOff(m, t) => Finished {
@@ -146,7 +146,25 @@ fn listing(
                 trials: t,
             },
         },
-        Offered::Checked(m, t) => from_root(d, sizes, prices, counts, lits, sat, uses, plan, preferred, codes, costs, queue, store, m, t, k, limit),
+        Offered::Checked(m, t) => from_root(
+            d,
+            sizes,
+            prices,
+            counts,
+            lits,
+            sat,
+            uses,
+            plan,
+            preferred,
+            codes,
+            costs,
+            queue,
+            store,
+            m,
+            t,
+            k,
+            limit,
+        ),
     }
 }
 
@@ -159,13 +177,16 @@ fn finish(queue: &mut [u64], store: &mut [u64], f: Finished) -> Answer
     let g = f.progress;
     queue::clear(queue);
     store::clear_from(store, g.stored);
-    Answer::Ran(ending, Counts {
-        listed: g.listed,
-        tested: g.tested,
-        learned: g.learned,
-        unkept: g.unkept,
-        trials: g.trials,
-    })
+    Answer::Ran(
+        ending,
+        Counts {
+            listed: g.listed,
+            tested: g.tested,
+            learned: g.learned,
+            unkept: g.unkept,
+            trials: g.trials,
+        },
+    )
 }
 
 // The listing over decoded tables.
@@ -186,20 +207,45 @@ fn list_tables(
     requires { ⌜ ((p : Plant) × Tabled p d (now sizes) (now prices) (now counts) (now lits)) × Room k held (buffers (now codes) (now costs) (now queue) (now store)) ⌝ }
     ensures { λ r. ⌜ ((p : Plant) → Tabled p d (now (sizes .entry)) (now (prices .entry)) (now (counts .entry)) (now (lits .entry))
         → CalledAs r (buffers (now (codes .exit)) (now (costs .exit)) (now (queue .exit)) (now (store .exit)))
-          (calledOf (orderOf p) (buffers (now (codes .entry)) (now (costs .entry)) (now (queue .entry)) (now (store .entry)))
-           (runOf p k (buffers (now (codes .entry)) (now (costs .entry)) (now (queue .entry)) (now (store .entry))) held limit))) ⌝ }
+        (calledOf (orderOf p) (buffers (now (codes .entry)) (now (costs .entry)) (now (queue .entry)) (now (store .entry)))
+        (runOf p k (buffers (now (codes .entry)) (now (costs .entry)) (now (queue .entry)) (now (store .entry))) held limit))) ⌝ }
 {
     let mut sat = [0u64; 6144];
     let mut uses = [0u64; 384];
     let mut plan = [0u64; 438];
     prepare(counts, lits, &mut sat, &mut uses);
     let preferred = preferred::preferred(sizes, prices, d);
-    let f = listing(d, sizes, prices, counts, lits, &sat, &uses, &mut plan, preferred, codes, costs, queue, store, k, held, limit);
+    let f = listing(
+        d,
+        sizes,
+        prices,
+        counts,
+        lits,
+        &sat,
+        &uses,
+        &mut plan,
+        preferred,
+        codes,
+        costs,
+        queue,
+        store,
+        k,
+        held,
+        limit,
+    );
     finish(queue, store, f)
 }
 
 // The number of the first ground on which the host's numbers are refused, or 0; `short`: the export has fewer than six result words.
-fn unfit(k: u32, codes: usize, costs: usize, queue: usize, store: usize, held: usize, short: bool) -> u32
+fn unfit(
+    k: u32,
+    codes: usize,
+    costs: usize,
+    queue: usize,
+    store: usize,
+    held: usize,
+    short: bool,
+) -> u32
     ensures { λ r. ⌜ ((b : Buffers) → length (b .codes) ≡ codes → length (b .costs) ≡ costs → length (b .queue) ≡ queue → length (b .store) ≡ store → r ≡ groundNumber (firstGiven (hostGrounds k b held short))) ⌝ }
 {
     if !((1 <= k) & (k <= 4096)) {
@@ -233,7 +279,15 @@ fn list_with(
     ensures { λ r. ⌜ CalledAs r (buffers (now (codes .exit)) (now (costs .exit)) (now (queue .exit)) (now (store .exit)))
         (listingWith (now (sheet .entry)) k (buffers (now (codes .entry)) (now (costs .entry)) (now (queue .entry)) (now (store .entry))) held limit short) ⌝ }
 {
-    let ground = unfit(k, codes.len(), costs.len(), queue.len(), store.len(), held, short);
+    let ground = unfit(
+        k,
+        codes.len(),
+        costs.len(),
+        queue.len(),
+        store.len(),
+        held,
+        short,
+    );
     if ground != 0 {
         return Answer::Refused(Refusal::Host(ground));
     }
@@ -245,7 +299,20 @@ fn list_with(
         sheet::Answer::Refused(n) => Answer::Refused(Refusal::Author(n)),
         sheet::Answer::Counts(d, s, c) => {
             let n = d + s;
-            list_tables(d, &sizes[..n], &prices, &counts[..c], &lits, codes, costs, queue, store, k, held, limit)
+            list_tables(
+                d,
+                &sizes[..n],
+                &prices,
+                &counts[..c],
+                &lits,
+                codes,
+                costs,
+                queue,
+                store,
+                k,
+                held,
+                limit,
+            )
         }
     }
 }
@@ -312,7 +379,17 @@ pub extern "C" fn leading_list(
     ensures promise { λ r. ⌜ ExportPromises (now (sheet .entry)) k (buffers (now (codes .entry)) (now (costs .entry)) (now (queue .entry)) (now (store .entry))) held limit (now (result .entry)) r
         (buffers (now (codes .exit)) (now (costs .exit)) (now (queue .exit)) (now (store .exit))) (now (result .exit)) ⌝ }
 {
-    match list_with(sheet, k, codes, costs, queue, store, held, limit, result.len() < 6) {
+    match list_with(
+        sheet,
+        k,
+        codes,
+        costs,
+        queue,
+        store,
+        held,
+        limit,
+        result.len() < 6,
+    ) {
         Answer::Refused(r) => conflict::calls::number(r),
         Answer::Ran(e, c) => {
             write(result, e, c);

@@ -180,7 +180,15 @@ exported-is = refl
 -- settings of the small plant with these lengths of codes, costs, queue and store
 unfoldable pub lengths : List ℕ → ℕ → ℕ → ℕ → ℕ → ℕ → ℕ → Settings
 lengths sheet k codes costs queue store held = record {
-  sheet = sheet; k = k; codes = codes; costs = costs; queue = queue; store = store; offered = []; held = held; limit = 1000;
+  sheet = sheet;
+  k = k;
+  codes = codes;
+  costs = costs;
+  queue = queue;
+  store = store;
+  offered = [];
+  held = held;
+  limit = 1000;
 }
 
 -- 1 to 4, each ground of its own

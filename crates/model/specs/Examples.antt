@@ -43,10 +43,10 @@ lent s = record {
 -- whoever unfolds this unfolds every definition of the listing
 unfoldable pub call : Settings → Called
 unfolding lent
-  number digits bitAt bitsAt then many field edition1 decisionsAllowed readDecision readState readLiteral readClause readFiller readEnd readBody readSheet
-  assignmentOf maskFits valuesFit wellFormed holdsAt literalFails clauseFalse anyFalse orElse tryValues explore test reduceFrom reduce costThenCode orderOf
-  checkOffers place placeAll putChildren learn judge expand remove step run start enoughSteps listing
-  firstGiven hostGrounds offersOf entryWords buffersAfter calledOf runOf listingWith listingCall
+    number digits bitAt bitsAt then many field edition1 decisionsAllowed readDecision readState readLiteral readClause readFiller readEnd readBody readSheet
+    assignmentOf maskFits valuesFit wellFormed holdsAt literalFails clauseFalse anyFalse orElse tryValues explore test reduceFrom reduce costThenCode orderOf
+    checkOffers place placeAll putChildren learn judge expand remove step run start enoughSteps listing
+    firstGiven hostGrounds offersOf entryWords buffersAfter calledOf runOf listingWith listingCall
 call s = listingCall (s .sheet) (s .k) (lent s) (s .held) (s .limit)
 
 unfoldable pub showAnswer : Buffers → Answered Run → Shown
@@ -62,7 +62,15 @@ shows s = let c : Called = call s in showAnswer (c .after) (c .answer)
 -- a queue and a store of so many entries, with all offered words held, and codes and costs of k words
 unfoldable pub plain : List ℕ → ℕ → ℕ → ℕ → List ℕ → ℕ → Settings
 plain sheet k entries places offered limit = record {
-  sheet = sheet; k = k; codes = k; costs = k; queue = 2 * entries; store = 2 * places; offered = offered; held = length offered / 2; limit = limit;
+  sheet = sheet;
+  k = k;
+  codes = k;
+  costs = k;
+  queue = 2 * entries;
+  store = 2 * places;
+  offered = offered;
+  held = length offered / 2;
+  limit = limit;
 }
 
 -- ---- the small plant

@@ -69,11 +69,11 @@ module _ (p : Plant) (limit : ℕ) where
       elim (wellFormed (decisionSizes p) (o .mask) (o .values)) [
         | false ↦ checkOffers survivors offers used
         | true ↦ let c : Assignment = assignmentOf (length (p .costs)) (o .mask) (o .values) in
-          elim (test p limit c used) [
-            | consistent f t ↦ checkOffers survivors offers t
-            | inconsistent t ↦ checkOffers (stored survivors c) offers t
-            | Tested.spent t ↦ brokenOff survivors t
-          ]
+            elim (test p limit c used) [
+              | consistent f t ↦ checkOffers survivors offers t
+              | inconsistent t ↦ checkOffers (stored survivors c) offers t
+              | Tested.spent t ↦ brokenOff survivors t
+            ]
       ]
 
 -- ---- the children of a node
@@ -120,43 +120,79 @@ leaveOff store nodes = keep (λ n. not (manifestsAny store n)) nodes
 
 abbrev pub queued : State → List Assignment → State
 queued s queue = record {
-  queue = queue; store = s .store; listed = s .listed;
-  tested = s .tested; learned = s .learned; unkept = s .unkept; trials = s .trials; struck = s .struck;
+  queue = queue;
+  store = s .store;
+  listed = s .listed;
+  tested = s .tested;
+  learned = s .learned;
+  unkept = s .unkept;
+  trials = s .trials;
+  struck = s .struck;
 }
 
 -- the test was consistent: the state is listed
 abbrev pub listedOne : State → List Assignment → List ℕ → ℕ → State
 listedOne s rest f t = record {
-  queue = rest; store = s .store; listed = s .listed ++ (f ∷ []);
-  tested = s .tested + 1; learned = s .learned; unkept = s .unkept; trials = t; struck = s .struck;
+  queue = rest;
+  store = s .store;
+  listed = s .listed ++ (f ∷ []);
+  tested = s .tested + 1;
+  learned = s .learned;
+  unkept = s .unkept;
+  trials = t;
+  struck = s .struck;
 }
 
 -- the test was inconsistent and the store is full
 abbrev pub unkeptOne : State → List Assignment → ℕ → State
 unkeptOne s rest t = record {
-  queue = rest; store = s .store; listed = s .listed;
-  tested = s .tested + 1; learned = s .learned; unkept = s .unkept + 1; trials = t; struck = s .struck;
+  queue = rest;
+  store = s .store;
+  listed = s .listed;
+  tested = s .tested + 1;
+  learned = s .learned;
+  unkept = s .unkept + 1;
+  trials = t;
+  struck = s .struck;
 }
 
 -- a conflict is learned, and the queue nodes that manifest it are removed
 abbrev pub learnedOne : State → List Assignment → Assignment → ℕ → State
 learnedOne s rest c t = record {
-  queue = leaveOff (c ∷ []) rest; store = stored (s .store) c; listed = s .listed;
-  tested = s .tested + 1; learned = s .learned + 1; unkept = s .unkept; trials = t; struck = s .struck;
+  queue = leaveOff (c ∷ []) rest;
+  store = stored (s .store) c;
+  listed = s .listed;
+  tested = s .tested + 1;
+  learned = s .learned + 1;
+  unkept = s .unkept;
+  trials = t;
+  struck = s .struck;
 }
 
 -- the limit struck in the test itself
 abbrev pub spentInTest : State → ℕ → State
 spentInTest s t = record {
-  queue = s .queue; store = s .store; listed = s .listed;
-  tested = s .tested; learned = s .learned; unkept = s .unkept; trials = t; struck = s .struck;
+  queue = s .queue;
+  store = s .store;
+  listed = s .listed;
+  tested = s .tested;
+  learned = s .learned;
+  unkept = s .unkept;
+  trials = t;
+  struck = s .struck;
 }
 
 -- the limit struck inside the reduction: one test is counted whose conflict was not learned
 abbrev pub spentInReduction : State → ℕ → State
 spentInReduction s t = record {
-  queue = s .queue; store = s .store; listed = s .listed;
-  tested = s .tested + 1; learned = s .learned; unkept = s .unkept; trials = t; struck = true;
+  queue = s .queue;
+  store = s .store;
+  listed = s .listed;
+  tested = s .tested + 1;
+  learned = s .learned;
+  unkept = s .unkept;
+  trials = t;
+  struck = true;
 }
 
 -- the greatest count of tests
@@ -240,8 +276,14 @@ unassigned (s ∷ ss) = none ∷ unassigned ss
 -- step 2: the queue holds the empty assignment; every count starts at 0
 unfoldable pub start : List ℕ → List Assignment → ℕ → State
 start domains survivors used = record {
-  queue = unassigned domains ∷ []; store = survivors; listed = [];
-  tested = 0; learned = 0; unkept = 0; trials = used; struck = false;
+  queue = unassigned domains ∷ [];
+  store = survivors;
+  listed = [];
+  tested = 0;
+  learned = 0;
+  unkept = 0;
+  trials = used;
+  struck = false;
 }
 
 -- the steps that a sheet allows: the weight of the empty assignment, and one to end

@@ -89,11 +89,17 @@ module _ (e : Edition) (sheet : List ℕ) where
   unfoldable pub readLiteral : List ℕ → ℕ → Read Literal
   readLiteral domains place =
       then (field sheet 6 place) (λ v after.
-      elim (ltb v (length domains)) [ false ↦ refused 10 | true ↦
-      then (field sheet 1 after) (λ s after.
-      then (field sheet 4 after) (λ x after.
-      elim (ltb x (getD domains v 0)) [ false ↦ refused 11 | true ↦
-      got (record { variable = v; sign = s; value = x }) after ])) ])
+      elim (ltb v (length domains)) [
+        | false ↦ refused 10
+        | true ↦
+            then (field sheet 1 after) (λ s after.
+            then (field sheet 4 after) (λ x after.
+            elim (ltb x (getD domains v 0)) [
+              | false ↦ refused 11
+              | true ↦
+                  got (record { variable = v; sign = s; value = x }) after
+            ]))
+      ])
 
   -- a clause: the literal count, then the literals
   unfoldable pub readClause : List ℕ → ℕ → Read (List Literal)
@@ -122,11 +128,23 @@ module _ (e : Edition) (sheet : List ℕ) where
   unfoldable pub readSheet : Read Plant
   readSheet =
       then (field sheet 8 0) (λ n after.
-      elim (eqb n (e .number)) [ false ↦ refused 6 | true ↦
-      then (field sheet 5 after) (λ d after.
-      elim (decisionsAllowed e d) [ false ↦ refused 7 | true ↦
-      then (field sheet 6 after) (λ s after.
-      elim (leb s 32) [ false ↦ refused 8 | true ↦
-      then (field sheet 10 after) (λ c after.
-      elim (leb c 512) [ false ↦ refused 9 | true ↦
-      readBody d s c after ]) ]) ]) ])
+      elim (eqb n (e .number)) [
+        | false ↦ refused 6
+        | true ↦
+            then (field sheet 5 after) (λ d after.
+            elim (decisionsAllowed e d) [
+              | false ↦ refused 7
+              | true ↦
+                  then (field sheet 6 after) (λ s after.
+                  elim (leb s 32) [
+                    | false ↦ refused 8
+                    | true ↦
+                        then (field sheet 10 after) (λ c after.
+                        elim (leb c 512) [
+                          | false ↦ refused 9
+                          | true ↦
+                              readBody d s c after
+                        ])
+                  ])
+            ])
+      ])

@@ -7,10 +7,10 @@ use vectors::print_hex16;
 use vectors::print_number;
 use vectors::print_text;
 use vectors::read_block;
+use vectors::read_u8;
 use vectors::read_u16;
 use vectors::read_u32;
 use vectors::read_u64;
-use vectors::read_u8;
 
 // Prints the number of a refusal.
 fn refused(r: Refusal) {

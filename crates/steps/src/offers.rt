@@ -43,7 +43,19 @@ fn check(
     if !words::well_formed(e.mask, e.values, sizes, d) {
         return Offered::Checked(m, used);
     }
-    match tested(d, sizes, counts, lits, sat, uses, plan, e.mask, e.values, used, limit) {
+    match tested(
+        d,
+        sizes,
+        counts,
+        lits,
+        sat,
+        uses,
+        plan,
+        e.mask,
+        e.values,
+        used,
+        limit,
+    ) {
         Answer::Consistent(t) => Offered::Checked(m, t),
         Answer::Spent(t) => Offered::BrokenOff(m, t),
         Answer::Inconsistent(t) => {
@@ -74,7 +86,20 @@ pub fn check_all(
     let mut used: u32 = 0;
     let mut i = 0;
     while i < held {
-        match check(d, sizes, counts, lits, sat, uses, plan, store, i, m, used, limit) {
+        match check(
+            d,
+            sizes,
+            counts,
+            lits,
+            sat,
+            uses,
+            plan,
+            store,
+            i,
+            m,
+            used,
+            limit,
+        ) {
             Offered::BrokenOff(n, t) => {
                 return Offered::BrokenOff(n, t);
             }

@@ -74,7 +74,7 @@ fn learn(
     ensures answer { λ r. ⌜ ((q : Question) (prices codes costs : List ℕ) → Tabled (q .plant) d (now (sizes .entry)) prices (now (counts .entry)) (now (lits .entry))
         → (t : Removed q limit (now (queue .entry)) (now (store .entry)) codes costs g node)
         → NextIs q (now (queue .exit)) (now (store .exit)) codes costs r
-          (learn (q .plant) (orderOf (q .plant)) (q .wanted) (length (now (queue .entry)) / 2) (length (now (store .entry)) / 2) limit (t .state) (t .rest) (t .parent) trials)) ⌝ }
+        (learn (q .plant) (orderOf (q .plant)) (q .wanted) (length (now (queue .entry)) / 2) (length (now (store .entry)) / 2) limit (t .state) (t .rest) (t .parent) trials)) ⌝ }
     ensures long { λ _. ⌜ length (now (plan .exit)) ≡ 438 ⌝ }
 {
     if store.len() / 2 <= g.stored {
@@ -88,16 +88,31 @@ fn learn(
             trials: trials,
         });
     }
-    match reduce(d, sizes, counts, lits, sat, uses, plan, node.mask, children::values(node), trials, limit) {
-        Reduced::Spent(t) => Next::Ended(Ending::Spent, Progress {
-            queued: g.queued,
-            stored: g.stored,
-            listed: g.listed,
-            tested: g.tested + 1,
-            learned: g.learned,
-            unkept: g.unkept,
-            trials: t,
-        }),
+    match reduce(
+        d,
+        sizes,
+        counts,
+        lits,
+        sat,
+        uses,
+        plan,
+        node.mask,
+        children::values(node),
+        trials,
+        limit,
+    ) {
+        Reduced::Spent(t) => Next::Ended(
+            Ending::Spent,
+            Progress {
+                queued: g.queued,
+                stored: g.stored,
+                listed: g.listed,
+                tested: g.tested + 1,
+                learned: g.learned,
+                unkept: g.unkept,
+                trials: t,
+            },
+        ),
         Reduced::Conflict(mask, values, t) => {
             store::append(store, g.stored, mask, values);
             let left = queue::sieve(queue, g.queued, mask, values);
@@ -135,23 +150,52 @@ fn judge(
     ensures answer { λ r. ⌜ ((q : Question) (prices : List ℕ) → Tabled (q .plant) d (now (sizes .entry)) prices (now (counts .entry)) (now (lits .entry))
         → (t : Removed q limit (now (queue .entry)) (now (store .entry)) (now (codes .entry)) (now (costs .entry)) g node) → isFull (t .parent) ≡ true
         → NextIs q (now (queue .exit)) (now (store .exit)) (now (codes .exit)) (now (costs .exit)) r
-          (judge (q .plant) (orderOf (q .plant)) (q .wanted) (length (now (queue .entry)) / 2) (length (now (store .entry)) / 2) limit (t .state) (t .rest) (t .parent))) ⌝ }
+        (judge (q .plant) (orderOf (q .plant)) (q .wanted) (length (now (queue .entry)) / 2) (length (now (store .entry)) / 2) limit (t .state) (t .rest) (t .parent))) ⌝ }
     ensures long { λ _. ⌜ length (now (plan .exit)) ≡ 438 ⌝ }
 {
     if g.tested == 4294967295 {
         return Next::Ended(Ending::Spent, g);
     }
-    match tested(d, sizes, counts, lits, sat, uses, plan, node.mask, children::values(node), g.trials, limit) {
-        Answer::Spent(t) => Next::Ended(Ending::Spent, Progress {
-            queued: g.queued,
-            stored: g.stored,
-            listed: g.listed,
-            tested: g.tested,
-            learned: g.learned,
-            unkept: g.unkept,
-            trials: t,
-        }),
-        Answer::Inconsistent(t) => learn(d, sizes, counts, lits, sat, uses, plan, queue, store, g, node, t, limit),
+    match tested(
+        d,
+        sizes,
+        counts,
+        lits,
+        sat,
+        uses,
+        plan,
+        node.mask,
+        children::values(node),
+        g.trials,
+        limit,
+    ) {
+        Answer::Spent(t) => Next::Ended(
+            Ending::Spent,
+            Progress {
+                queued: g.queued,
+                stored: g.stored,
+                listed: g.listed,
+                tested: g.tested,
+                learned: g.learned,
+                unkept: g.unkept,
+                trials: t,
+            },
+        ),
+        Answer::Inconsistent(t) => learn(
+            d,
+            sizes,
+            counts,
+            lits,
+            sat,
+            uses,
+            plan,
+            queue,
+            store,
+            g,
+            node,
+            t,
+            limit,
+        ),
         Answer::Consistent(t) => {
             let at = g.listed as usize;
             codes[at] = node.code;
@@ -209,17 +253,60 @@ fn expand(
     requires { ⌜ Expands d (now sizes) (now prices) (now counts) (now lits) (now sat) (now uses) (now plan) preferred limit (now codes) (now costs) (now queue) (now store) g node ⌝ }
     ensures answer { λ r. ⌜ ((t : Expands d (now (sizes .entry)) (now (prices .entry)) (now (counts .entry)) (now (lits .entry)) (now (sat .entry)) (now (uses .entry)) (now (plan .entry)) preferred limit (now (codes .entry)) (now (costs .entry)) (now (queue .entry)) (now (store .entry)) g node)
         → NextIs (t .question) (now (queue .exit)) (now (store .exit)) (now (codes .exit)) (now (costs .exit)) r
-          (expand (t .question .plant) (orderOf (t .question .plant)) (t .question .wanted) (length (now (queue .entry)) / 2) (length (now (store .entry)) / 2) limit (t .taken .state) (t .taken .rest) (t .taken .parent))) ⌝ }
+        (expand (t .question .plant) (orderOf (t .question .plant)) (t .question .wanted) (length (now (queue .entry)) / 2) (length (now (store .entry)) / 2) limit (t .taken .state) (t .taken .rest) (t .taken .parent))) ⌝ }
     ensures long { λ _. ⌜ length (now (plan .exit)) ≡ 438 ⌝ }
 {
     let values = children::values(node);
     match store::first_unresolved(store, g.stored, values, words::widened(node.mask)) {
-        Unresolved::At(m, x) => put(g, children::resolve(sizes, prices, preferred, d, node, m, x, queue, g.queued, store, g.stored)),
+        Unresolved::At(m, x) => put(
+            g,
+            children::resolve(
+                sizes,
+                prices,
+                preferred,
+                d,
+                node,
+                m,
+                x,
+                queue,
+                g.queued,
+                store,
+                g.stored,
+            ),
+        ),
         Unresolved::Nothing => {
             if words::is_full(node.mask, d) {
-                return judge(d, sizes, counts, lits, sat, uses, plan, codes, costs, queue, store, g, node, limit);
+                return judge(
+                    d,
+                    sizes,
+                    counts,
+                    lits,
+                    sat,
+                    uses,
+                    plan,
+                    codes,
+                    costs,
+                    queue,
+                    store,
+                    g,
+                    node,
+                    limit,
+                );
             }
-            put(g, children::branch(sizes, prices, preferred, d, node, queue, g.queued, store, g.stored))
+            put(
+                g,
+                children::branch(
+                    sizes,
+                    prices,
+                    preferred,
+                    d,
+                    node,
+                    queue,
+                    g.queued,
+                    store,
+                    g.stored,
+                ),
+            )
         }
     }
 }
@@ -246,7 +333,7 @@ fn step(
     requires { ⌜ Steps d (now sizes) (now prices) (now counts) (now lits) (now sat) (now uses) (now plan) preferred k limit (now codes) (now costs) (now queue) (now store) g ⌝ }
     ensures answer { λ r. ⌜ ((t : Steps d (now (sizes .entry)) (now (prices .entry)) (now (counts .entry)) (now (lits .entry)) (now (sat .entry)) (now (uses .entry)) (now (plan .entry)) preferred k limit (now (codes .entry)) (now (costs .entry)) (now (queue .entry)) (now (store .entry)) g)
         → NextIs (t .question) (now (queue .exit)) (now (store .exit)) (now (codes .exit)) (now (costs .exit)) r
-          (step (t .question .plant) (orderOf (t .question .plant)) k (length (now (queue .entry)) / 2) (length (now (store .entry)) / 2) limit (t .state))) ⌝ }
+        (step (t .question .plant) (orderOf (t .question .plant)) k (length (now (queue .entry)) / 2) (length (now (store .entry)) / 2) limit (t .state))) ⌝ }
     ensures long { λ _. ⌜ length (now (plan .exit)) ≡ 438 ⌝ }
 {
     if k <= g.listed {
@@ -265,7 +352,24 @@ fn step(
         unkept: g.unkept,
         trials: g.trials,
     };
-    expand(d, sizes, prices, counts, lits, sat, uses, plan, preferred, codes, costs, queue, store, left, children::from_entry(e.a, e.b), limit)
+    expand(
+        d,
+        sizes,
+        prices,
+        counts,
+        lits,
+        sat,
+        uses,
+        plan,
+        preferred,
+        codes,
+        costs,
+        queue,
+        store,
+        left,
+        children::from_entry(e.a, e.b),
+        limit,
+    )
 }
 
 // Steps 3 to 7 until one of them ends the run.
@@ -291,11 +395,28 @@ pub fn run(
     ensures { λ r. ⌜ ((t : Steps d (now (sizes .entry)) (now (prices .entry)) (now (counts .entry)) (now (lits .entry)) (now (sat .entry)) (now (uses .entry)) (now (plan .entry)) preferred k limit (now (codes .entry)) (now (costs .entry)) (now (queue .entry)) (now (store .entry)) start)
         (fuel : ℕ) → weights (decisionSizes (t .question .plant)) (t .state .queue) < fuel
         → FinishedAs (t .question) (now (store .exit)) (now (codes .exit)) (now (costs .exit)) r
-          (run (t .question .plant) (orderOf (t .question .plant)) k (length (now (queue .entry)) / 2) (length (now (store .entry)) / 2) limit fuel (t .state))) ⌝ }
+        (run (t .question .plant) (orderOf (t .question .plant)) k (length (now (queue .entry)) / 2) (length (now (store .entry)) / 2) limit fuel (t .state))) ⌝ }
 {
     let mut g = start;
     loop {
-        match step(d, sizes, prices, counts, lits, sat, uses, plan, preferred, codes, costs, queue, store, g, k, limit) {
+        match step(
+            d,
+            sizes,
+            prices,
+            counts,
+            lits,
+            sat,
+            uses,
+            plan,
+            preferred,
+            codes,
+            costs,
+            queue,
+            store,
+            g,
+            k,
+            limit,
+        ) {
             Next::Ended(ending, progress) => {
                 return Finished {
                     ending: ending,

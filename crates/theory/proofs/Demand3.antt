@@ -66,9 +66,9 @@ module _ (o : Order) (b : Buffers) (s : State) where
   unfolding buffersAfter
   run-list =
       let c : take (length (s .listed)) (filled (map code (s .listed)) (b .codes)) ≡ map code (s .listed) =
-          rw (← length-map (s .listed) code) (filled-take (map code (s .listed)) (b .codes)) in
+      rw (← length-map (s .listed) code) (filled-take (map code (s .listed)) (b .codes)) in
       let d : take (length (s .listed)) (filled (map (o .figure) (s .listed)) (b .costs)) ≡ map (o .figure) (s .listed) =
-          rw (← length-map (s .listed) (o .figure)) (filled-take (map (o .figure) (s .listed)) (b .costs)) in
+      rw (← length-map (s .listed) (o .figure)) (filled-take (map (o .figure) (s .listed)) (b .costs)) in
       rw (c, d) (entries-map o (s .listed))
 
 -- ---- places of a list
@@ -116,7 +116,7 @@ module _ (p : Plant) (o : Order) (law : Lawful (decisionSizes p) o) (short : len
       states = λ i h. (getD (s .listed) i [], state-at i h, filled-at code (s .listed) (b .codes) [] i h, filled-at (o .figure) (s .listed) (b .costs) [] i h);
       gapless = λ i h f g gf gg q r.
           let same : getD (s .listed) i [] ≡ g = code-injective (decisionSizes p) (getD (s .listed) i []) g short small (state-at i h .0) (gg .0)
-              (sym (filled-at code (s .listed) (b .codes) [] i h) ∙ q) in
+          (sym (filled-at code (s .listed) (b .codes) [] i h) ∙ q) in
           let t = state-earlier i h f gf (rw same r) in
           (t .0, t .1, filled-at code (s .listed) (b .codes) [] (t .0) (omega (arith, t .1)) ∙ ap code (t .2));
       stored = record {
@@ -158,9 +158,13 @@ module _ (sheet : List ℕ) (p : Plant) (end : ℕ) (e : readSheet edition1 shee
   unfolding runOf
   run-demand3 k b held limit =
       let r = listing-done p (orderOf p) sheet-lawful (accepted-present edition1 p sheet-accepted) (all-map (λ s h. h .0) (decisionSizes p) sheet-sized) k limit
-          (length (b .queue) / 2) (length (b .store) / 2) (offersOf held (b .store)) in
-      (r .1, r .2, r .3, demand3-done p (orderOf p) sheet-lawful (rw (length-map (p .costs) length) sheet-short) (all-map (λ s h. h .1) (decisionSizes p) sheet-sized)
-          k limit (r .0) b (r .1) (r .2) (r .4))
+      (length (b .queue) / 2) (length (b .store) / 2) (offersOf held (b .store)) in (
+        r .1,
+        r .2,
+        r .3,
+        demand3-done p (orderOf p) sheet-lawful (rw (length-map (p .costs) length) sheet-short) (all-map (λ s h. h .1) (decisionSizes p) sheet-sized)
+            k limit (r .0) b (r .1) (r .2) (r .4),
+      )
 
 -- whatever is asked, a refusal changes nothing, and anything else is a run of which demand 3 holds
 pub promised : (sheet : List ℕ) (k : ℕ) (b : Buffers) (held limit : ℕ) (resultShort : Bool) → Promised sheet k b limit (listingWith sheet k b held limit resultShort)

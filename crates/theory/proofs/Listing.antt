@@ -77,7 +77,13 @@ module _ (p : Plant) (o : Order) (law : Lawful (decisionSizes p) o) (present : V
           → (survivors : List Assignment) × (e : Ending) × (s : State) × (listing p o k entries places offers limit ≡ ended e s) × Done p o k limit survivors entries e s
       go (checked survivors used) q h =
           let r = run-done p o law present k entries places limit survivors sized (enoughSteps (decisionSizes p)) (start (decisionSizes p) survivors used)
-              (omega arith) (start-going survivors used (h .0) (h .1)) in
+          (omega arith) (start-going survivors used (h .0) (h .1)) in
           (survivors, r .0, r .1, rw (listing, q) (r .2), r .3)
-      go (brokenOff survivors used) q h = (survivors, Ending.spent, start (decisionSizes p) survivors used, rw (listing, q), spent-done p o law present k entries places limit survivors
-          (start (decisionSizes p) survivors used) (start-going survivors used (h .0) (h .1) .kept))
+      go (brokenOff survivors used) q h = (
+        survivors,
+        Ending.spent,
+        start (decisionSizes p) survivors used,
+        rw (listing, q),
+        spent-done p o law present k entries places limit survivors
+            (start (decisionSizes p) survivors used) (start-going survivors used (h .0) (h .1) .kept),
+      )

@@ -171,8 +171,8 @@ module _ (p : Plant) (o : Order) (law : Lawful (decisionSizes p) o) where
           (fits, rw (full-values n e) at (full-agree (valueList n)))
           (λ f i. full-one n f e (i .1))
           (all-map (λ m h f i. first.weak-trans (Before o) (law .transitive) (valueList n) (best (o .preferred) m) f
-              (inr (rw (full-best ss (o .preferred) n (law .preferred) (s .valid .0) e) at (h .0))) (best-least ss o law m (h .1) f i))
-              rest (all-zip _ (Valid ss) rest (s .ordered .0) (s .valid .1)))
+          (inr (rw (full-best ss (o .preferred) n (law .preferred) (s .valid .0) e) at (h .0))) (best-least ss o law m (h .1) f i))
+          rest (all-zip _ (Valid ss) rest (s .ordered .0) (s .valid .1)))
           (s .search);
       valid = s .valid .1;
       ordered = s .ordered .1;

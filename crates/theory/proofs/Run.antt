@@ -59,46 +59,55 @@ module _ (p : Plant) (o : Order) (law : Lawful (decisionSizes p) o) (present : V
     module _ (whole : isFull n ≡ true) (below : s .tested < mostTested) (room : length (s .listed) < k) where
       -- step 7, consistent
       step-listed : (t : ℕ) → t ≤ limit → Consistent p n → Stepped p o k limit survivors entries s (more (listedOne s rest (valueList n) t))
-      step-listed t h c = (record {
-        kept = record {
-          searching = searching-list p o law front whole c;
-          store = g .kept .store;
-          sum = simp length-append (rw (g .unstruck) (omega (arith, sum)));
-          tested = omega arith;
-          trials = h;
-          listed = simp length-append (omega arith);
-        };
-        unstruck = g .unstruck;
-      }, lighter)
+      step-listed t h c = (
+        record {
+          kept = record {
+            searching = searching-list p o law front whole c;
+            store = g .kept .store;
+            sum = simp length-append (rw (g .unstruck) (omega (arith, sum)));
+            tested = omega arith;
+            trials = h;
+            listed = simp length-append (omega arith);
+          };
+          unstruck = g .unstruck;
+        },
+        lighter,
+      )
 
       module _ (bad : Consistent p n → ⊥) where
         -- step 7, inconsistent with the store full
         step-unkept : (t : ℕ) → t ≤ limit → Stepped p o k limit survivors entries s (more (unkeptOne s rest t))
-        step-unkept t h = (record {
-          kept = record {
-            searching = searching-drop p o law front whole bad;
-            store = g .kept .store;
-            sum = rw (g .unstruck) (omega (arith, sum));
-            tested = omega arith;
-            trials = h;
-            listed = g .kept .listed;
-          };
-          unstruck = g .unstruck;
-        }, lighter)
+        step-unkept t h = (
+          record {
+            kept = record {
+              searching = searching-drop p o law front whole bad;
+              store = g .kept .store;
+              sum = rw (g .unstruck) (omega (arith, sum));
+              tested = omega arith;
+              trials = h;
+              listed = g .kept .listed;
+            };
+            unstruck = g .unstruck;
+          },
+          lighter,
+        )
 
         -- step 7, inconsistent and learned
         step-learned : (c : Assignment) (t : ℕ) → t ≤ limit → Minimal p c → Stepped p o k limit survivors entries s (more (learnedOne s rest c t))
-        step-learned c t h m = (record {
-          kept = record {
-            searching = searching-sieve p o law (c ∷ []) (m .conflict, tt) (searching-drop p o law front whole bad);
-            store = stored-more p c m (g .kept .store);
-            sum = rw (g .unstruck) (omega (arith, sum));
-            tested = omega arith;
-            trials = h;
-            listed = g .kept .listed;
-          };
-          unstruck = g .unstruck;
-        }, omega (arith, lighter, sum-keep (weight (decisionSizes p)) (λ m. not (manifestsAny (c ∷ []) m)) rest))
+        step-learned c t h m = (
+          record {
+            kept = record {
+              searching = searching-sieve p o law (c ∷ []) (m .conflict, tt) (searching-drop p o law front whole bad);
+              store = stored-more p c m (g .kept .store);
+              sum = rw (g .unstruck) (omega (arith, sum));
+              tested = omega arith;
+              trials = h;
+              listed = g .kept .listed;
+            };
+            unstruck = g .unstruck;
+          },
+          omega (arith, lighter, sum-keep (weight (decisionSizes p)) (λ m. not (manifestsAny (c ∷ []) m)) rest),
+        )
 
         -- step 7, inconsistent: the reduction
         learn-stepped : (t : ℕ) → t ≤ limit → Stepped p o k limit survivors entries s (learn p o k entries places limit s rest n t)
@@ -163,17 +172,20 @@ module _ (p : Plant) (o : Order) (law : Lawful (decisionSizes p) o) (present : V
           struck-spent = λ d. differ (cc (g .unstruck));
           full-small = λ d. omega (arith, ltb-true entries (length rest + length others) e, front .roomy, c .smaller, fewer (room ss), rooms-length ss rest sized, rooms-length ss others sized);
         })
-        go false e = rw (putChildren, e) (record {
-          kept = record {
-            searching = searching-put p o law front (s .store) children (stored-conflicts p (g .kept .store)) c;
-            store = g .kept .store;
-            sum = g .kept .sum;
-            tested = g .kept .tested;
-            trials = g .kept .trials;
-            listed = g .kept .listed;
-          };
-          unstruck = g .unstruck;
-        }, rw (enqueueAll-sum o (weight ss) others rest, head) (omega (arith, c .lighter, fewer (weight ss))))
+        go false e = rw (putChildren, e) (
+          record {
+            kept = record {
+              searching = searching-put p o law front (s .store) children (stored-conflicts p (g .kept .store)) c;
+              store = g .kept .store;
+              sum = g .kept .sum;
+              tested = g .kept .tested;
+              trials = g .kept .trials;
+              listed = g .kept .listed;
+            };
+            unstruck = g .unstruck;
+          },
+          rw (enqueueAll-sum o (weight ss) others rest, head) (omega (arith, c .lighter, fewer (weight ss))),
+        )
 
     -- the first unresolved conflict is one of the store's, and unresolved
     unresolved : (store : List Assignment) → All (Conflict p) store → (c : Assignment) → firstUnresolved store n ≡ some c → Conflict p c × (resolves n c ≡ false)
@@ -228,7 +240,7 @@ module _ (p : Plant) (o : Order) (law : Lawful (decisionSizes p) o) (present : V
       where
         go : (x : Next) → step p o k entries places limit s ≡ x → Stepped p o k limit survivors entries s x
             → ((t : State) → weights (decisionSizes p) (t .queue) < fuel → Going p o k limit survivors t
-                → (e : Ending) × (u : State) × (run p o k entries places limit fuel t ≡ ended e u) × Done p o k limit survivors entries e u)
+            → (e : Ending) × (u : State) × (run p o k entries places limit fuel t ≡ ended e u) × Done p o k limit survivors entries e u)
             → (e : Ending) × (t : State) × (run p o k entries places limit (suc fuel) s ≡ ended e t) × Done p o k limit survivors entries e t
         go (ended e t) q d ih = (e, t, rw (run, q), d)
         go (more t) q d ih = let r = ih t (omega (arith, d .1)) (d .0) in (r .0, r .1, rw (run, q) (r .2), r .3)

@@ -41,8 +41,7 @@ returns-2 c =
     let g = c .before .before .before .before .before .before .before .before .before .before .before .before .before .before .before .before .before .before .before .before .pre in
     let p = c .before .before .before .before .before .before .before .before .before .before .before .before .start .ensures in
     let e = c .before .before .before .before .before .search .ensures in
-    let f = c .before .before .take-found .ensures in
-    (
+    let f = c .before .before .take-found .ensures in (
       rw (f .1, f .0)
           (planned-searched _ _ _ _ _ _ (g .0) (g .2) _ _ _ _ _ p (knows-none _ _ _ _ (λ v l. p .blank v (omega arith) (omega (arith, g .0 .same))))
           _ _ (sym (c .before .before .before .before .before .before .before .before .any-false .ensures) ∙ c .before .before .before .before .before .before .before .if1 .left) _ _ (e .0 _ _ (plan-first _ _ _ _ _ _ (g .0) (g .2) _ _ _ _ _ p))),

@@ -46,7 +46,7 @@ loop-again c =
     let step = fit-step (s .sizes .now) (s .d) (s .mask) (s .values) (h .loop .v) (p .0) (p .1) (c .before .before .before .before .loop-test .taken) in (
       omega arith,
       h .loop .inv .1
-      ∙ rw (step, ← c .before .before .bit-at .ensures .0, ← c .before .nibble-at .ensures .0, ← c .nibble-fits .ensures)
+          ∙ rw (step, ← c .before .before .bit-at .ensures .0, ← c .before .nibble-at .ensures .0, ← c .nibble-fits .ensures)
           (sym (and-assoc (h .loop .fit) (c .nibble-fits .result) (fitFrom (s .sizes .now) (s .d) (s .mask) (s .values) (h .loop .v + 1)))),
     )
 

@@ -253,7 +253,7 @@ module _ (t : ℕ) where
             let y = rw (d .7, d .8) at a in
             let z = alike-fewer (needs-left (d .2 .last .1 .0) next (l .needs1) (l .needs2)) y in
             rw (d .9) (deep-tries _ _ inOther _ _ _ _ (i .3 inOther z) lt more (i .2) _ _ refl (within-alike row (i .5) z w) (d .0 .taken) (λ c. inOther c || row c) (λ c h. refl) _ _
-                (finds-same (i .1) _ _ _ _ _ _ (i .4) (f .alike (λ c. inOther c || row c) (alike-deeper row (needs-right (d .2 .last .1 .0) next (l .needs1) (l .needs2)) (pair-or _ _ _ _) y))) _ n e),
+            (finds-same (i .1) _ _ _ _ _ _ (i .4) (f .alike (λ c. inOther c || row c) (alike-deeper row (needs-right (d .2 .last .1 .0) next (l .needs1) (l .needs2)) (pair-or _ _ _ _) y))) _ n e),
         rw (d .6) (λ cs sizes k. f .learns cs sizes (i .4 cs sizes k)),
         λ c h q. rw (d .7, d .8) (needs-left (d .2 .last .1 .0) next (l .needs1) (l .needs2) c h (i .5 c h q)),
       ))

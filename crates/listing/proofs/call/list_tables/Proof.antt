@@ -15,12 +15,12 @@ slice-aggregate-prepare-2 : tie.Need-slice-aggregate-prepare-2
 slice-aggregate-prepare-2 c = search needs
 
 prepare-requires : tie.Need-prepare-requires
-prepare-requires c κs = 
+prepare-requires c κs =
     let l = tabled-limits (c .before .before .before .before .before .before .before .before .before .before .pre .0 .1) in
     (tables-more _ 48 _ _ (l .few) (l .tables), omega arith, omega arith, zeros 6144, zeros 384)
 
 preferred-requires : tie.Need-preferred-requires
-preferred-requires c κs = 
+preferred-requires c κs =
     let t = c .before .before .before .before .before .before .before .before .before .before .before .before .before .pre .0 .1 in
     (tabled-few t, t .decisions, t .cost-room, rw (tabled-decisions t) at (tabled-sized t))
 
@@ -28,13 +28,13 @@ slice-aggregate-listing : tie.Need-slice-aggregate-listing
 slice-aggregate-listing c = search needs
 
 listing-requires : tie.Need-listing-requires
-listing-requires c κs = 
+listing-requires c κs =
     let s = c .before .before .before .before .before .before .before .before .before .before .before .before .before .before .before .before .before .before .before .before .before in
     let t = s .pre .0 .1 in
     lists-of t (c .before .before .before .before .before .before .before .before .before .before .prepare .ensures) plan-long (c .before .before .before .before .before .before .before .preferred .ensures _ _ _ t) (s .pre .1)
 
 finish-requires : tie.Need-finish-requires
-finish-requires c κs = 
+finish-requires c κs =
     let s = c .before .before .before .before .before .before .before .before .before .before .before .before .before .before .before .before .before .before .before .before .before .before .before .before .before .before .before .before .before .before .before .before in
     let t = s .pre .0 .1 in
     finished-room (c .before .before .before .before .before .before .before .before .before .before .listing .ensures (lists-of t (c .before .before .before .before .before .before .before .before .before .before .before .before .before .before .before .before .before .before .before .before .before .prepare .ensures) plan-long (c .before .before .before .before .before .before .before .before .before .before .before .before .before .before .before .before .before .before .preferred .ensures _ _ _ t) (s .pre .1)))

@@ -20,7 +20,7 @@ unfit-requires : tie.Need-unfit-requires
 unfit-requires c κs = search needs
 
 returns : tie.Need-returns
-returns c = 
+returns c =
     let s = c .before .before .before .before .before .before .before in
     host-refused (s .args .sheet .now) (s .args .k) (buffers (s .args .codes .now) (s .args .costs .now) (s .args .queue .now) (s .args .store .now)) (s .args .held) (s .args .limit) (s .args .short) (c .before .unfit .ensures (buffers (s .args .codes .now) (s .args .costs .now) (s .args .queue .now) (s .args .store .now)) refl refl refl refl) (c .if1 .taken)
 
@@ -75,13 +75,13 @@ slice-aggregate-list-tables-4 : tie.Need-slice-aggregate-list-tables-4
 slice-aggregate-list-tables-4 c = search needs
 
 list-tables-requires : tie.Need-list-tables-requires
-list-tables-requires c κs = 
+list-tables-requires c κs =
     let s = c .before .before .before .before .before .before .before .before .before .before .before .before .before .before .before .before .before .before .before .before .before .before .before .before .before .before .before in
     let o = tables (c .before .before .before .before .before .before .before .before .before) in
     ((o .plant, o .tabled), room-of (s .args .k) (buffers (s .args .codes .now) (s .args .costs .now) (s .args .queue .now) (s .args .store .now)) (s .args .held) (s .args .short) (sym (c .before .before .before .before .before .before .before .before .before .before .before .before .before .before .before .before .before .before .before .before .if1 .left) ∙ c .before .before .before .before .before .before .before .before .before .before .before .before .before .before .before .before .before .before .before .before .before .unfit .ensures (buffers (s .args .codes .now) (s .args .costs .now) (s .args .queue .now) (s .args .store .now)) refl refl refl refl))
 
 returns-2 : tie.Need-returns-2
-returns-2 c = 
+returns-2 c =
     let s = c .before .before .before .before .before .before .before .before .before .before .before .before .before .before .before .before .before .before .before in
     author-refused (s .args .sheet .now) (s .args .k) (buffers (s .args .codes .now) (s .args .costs .now) (s .args .queue .now) (s .args .store .now)) (s .args .held) (s .args .limit) (s .args .short) (sym (c .before .before .before .before .before .before .before .before .before .before .before .before .if1 .left) ∙ c .before .before .before .before .before .before .before .before .before .before .before .before .before .unfit .ensures (buffers (s .args .codes .now) (s .args .costs .now) (s .args .queue .now) (s .args .store .now)) refl refl refl refl) (refused-by _ _ _ _ _ (c .before .n .given .1) (c .before .before .before .before .before .before .before .read .ensures .0))
 
@@ -98,7 +98,7 @@ same-length-4 : tie.Need-same-length-4
 same-length-4 c = search needs
 
 returns-3 : tie.Need-returns-3
-returns-3 c = 
+returns-3 c =
     let s = c .before .before .before .before .before .before .before .before .before .before .before .before .before .before .before .before .before .before .before .before .before .before .before .before .before .before .before .before .before .before .before .before .before .before .before .before in
     let o = tables (c .before .before .before .before .before .before .before .before .before .before .before .before .before .before .before .before .before .before) in
     sheet-called (s .args .sheet .now) (s .args .k) (buffers (s .args .codes .now) (s .args .costs .now) (s .args .queue .now) (s .args .store .now)) (s .args .held) (s .args .limit) (s .args .short) (sym (c .before .before .before .before .before .before .before .before .before .before .before .before .before .before .before .before .before .before .before .before .before .before .before .before .before .before .before .before .before .if1 .left) ∙ c .before .before .before .before .before .before .before .before .before .before .before .before .before .before .before .before .before .before .before .before .before .before .before .before .before .before .before .before .before .before .unfit .ensures (buffers (s .args .codes .now) (s .args .costs .now) (s .args .queue .now) (s .args .store .now)) refl refl refl refl) (o .read) (c .before .before .before .before .before .before .before .before .list-tables .ensures (o .plant) (o .tabled))

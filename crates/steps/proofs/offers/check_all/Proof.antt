@@ -22,7 +22,7 @@ loop-holds : tie.Need-loop-holds Inv-loop μ-loop
 loop-holds c = (refl, c .before .before .before .before .before .pre .0 .planned, omega arith, omega arith, λ p costs t. checked-start (omega (arith, tabled-count t, tabled-few t)))
 
 check-requires : tie.Need-check-requires Inv-loop μ-loop
-check-requires c κs = 
+check-requires c κs =
     let s = c .before .before .before .before .before .before .before .before .before in
     let l = c .before .before .before .loop in
     (ready-again (s .pre .0) (l .inv .1), omega (arith, s .pre .1, l .inv .0, l .inv .3), l .inv .2)
@@ -59,10 +59,15 @@ loop-again c =
     let l = c .before .before .before .before .before .before .before .before .before .loop in
     let s = c .before .before .before .before .before .before .before .before .before .before .before .before .before .before .before in
     let e = c .before .n2 .given .1 in
-    let few = rw e at (k .ensures .0) in
-    (k .kept .1 .1 .1 .1 .1 .1 .1 .0 ∙ l .inv .0, k .ensures .1 .1, omega (arith, few, l .inv .2), omega (arith, c .before .before .before .before .before .before .before .before .loop-test .taken), λ p costs t.
-        let h = l .inv .4 p costs t in
-        checked-next h e (k .ensures .1 .0 p costs t (s .args .held) (h .survivors) (c .before .before .before .before .before .before .before .before .loop-test .taken) (omega (arith, s .pre .1, l .inv .0)) (h .keeps)))
+    let few = rw e at (k .ensures .0) in (
+      k .kept .1 .1 .1 .1 .1 .1 .1 .0 ∙ l .inv .0,
+      k .ensures .1 .1,
+      omega (arith, few, l .inv .2),
+      omega (arith, c .before .before .before .before .before .before .before .before .loop-test .taken),
+      λ p costs t.
+          let h = l .inv .4 p costs t in
+          checked-next h e (k .ensures .1 .0 p costs t (s .args .held) (h .survivors) (c .before .before .before .before .before .before .before .before .loop-test .taken) (omega (arith, s .pre .1, l .inv .0)) (h .keeps)),
+    )
 
 same-length-2 : tie.Need-same-length-2 Inv-loop μ-loop
 same-length-2 c = c .before .loop .inv .0
