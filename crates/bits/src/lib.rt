@@ -76,13 +76,6 @@ pub fn over<'a>(sheet: &'a [u8], place: usize) -> Reader<'a>
     Reader { sheet, place }
 }
 
-// Where a reader stands.
-pub fn place<'a>(r: Reader<'a>) -> usize
-    ensures { λ n. ⌜ n ≡ r .entry .place ⌝ }
-{
-    r.place
-}
-
 // Takes the field of w bits at the reader's place, and moves the reader on past it.
 pub fn take<'s, 'a>(r: &'s mut Reader<'a>, w: usize) -> Field
     requires { ⌜ (w ≤ 16) × (now r .place + w < 2 ^ 64) ⌝ }

@@ -2,6 +2,9 @@
 // is put into the queue unless it manifests a stored conflict. A node goes about as what its queue entry carries, and a
 // child's numbers are made from its parent's: nothing is summed or searched anew. `Step` says what a node and the lent
 // slices stand for, `Puts` what became of the queue; of a queue that was found full nothing is said.
+use limits::UNASSIGNED;
+use limits::VALUES;
+use limits::wide;
 ghost use mathlib.Core.Path.{_≡_};
 ghost use mathlib.Core.List.{[], _∷_};
 ghost use mathlib.Core.Option.{none, some};
@@ -17,6 +20,9 @@ ghost use Rattle.theory.specs.Words.{Words, byte};
 ghost use Rattle.theory.specs.Nodes.{Filled};
 ghost use Rattle.queue.specs.Order.{entryOf};
 ghost use Rattle.children.specs.Children.{NodeIs, Tables, Free, Step, Puts, variants, member};
+
+// No value of a variable, as one that is unassigned has it.
+const NO_VALUE: usize = UNASSIGNED as usize;
 
 // A node: its mask, the code of its best state and the cost of that state.
 pub struct Node {
@@ -54,7 +60,7 @@ fn price(costs: &[u16], v: usize, x: usize) -> u32
     requires { ⌜ 16 * v + x < length (now costs) ⌝ }
     ensures { λ r. ⌜ (r ≡ getD (now (costs .entry)) (16 * v + x) 0) × (r < 65536) ⌝ }
 {
-    costs[16 * v + x] as u32
+    costs[VALUES * v + x] as u32
 }
 
 // The node with its unassigned variable v at the value x, in place of the preferred value that its best state has there.
@@ -114,7 +120,7 @@ fn put_value(
     put_one(given(node, v, x, preferred, costs), queue, n, store, m)
 }
 
-// Puts the node with its unassigned variable v at each value of its domain but one; 16 is no value.
+// Puts the node with its unassigned variable v at each value of its domain but one, or at each.
 fn put_values(
     node: Node,
     v: usize,
@@ -152,13 +158,6 @@ fn put_values(
         x += 1;
     }
     Put::Entries(entries)
-}
-
-// A byte as an index.
-fn index(x: u8) -> usize
-    ensures { λ r. ⌜ r ≡ x ⌝ }
-{
-    x as usize
 }
 
 // The lowest unassigned of d variables, or d where there is none.
@@ -199,8 +198,8 @@ pub fn branch(
     put_values(
         node,
         v,
-        index(sizes[v]),
-        16,
+        wide(sizes[v]),
+        NO_VALUE,
         preferred,
         costs,
         queue,
@@ -210,15 +209,15 @@ pub fn branch(
     )
 }
 
-// The conflict's value for a variable that the node leaves unassigned, or 16.
+// The conflict's value for a variable that the node leaves unassigned, or none.
 fn wanted(node_mask: u64, mask: u64, values: u64, v: usize) -> usize
     requires { ⌜ v < 16 ⌝ }
     ensures { λ r. ⌜ ((n c : Assignment) (others : ℕ) → Words n «node_mask» others → Words c mask values → length n ≡ length c → v < length n → r ≡ byte (member (getD n v none) (getD c v none))) ⌝ }
 {
     if words::is_assigned(node_mask, v) {
-        return 16;
+        return NO_VALUE;
     }
-    index(words::value(mask, values, v))
+    wide(words::value(mask, values, v))
 }
 
 // Step 4: for each unassigned member of the conflict with these words in turn, puts the node with it at each other value and the members before it at the conflict's values.
@@ -244,11 +243,11 @@ pub fn resolve(
     let mut v = 0;
     while v < d {
         let y = wanted(passed.mask, mask, values, v);
-        if y < 16 {
+        if y < VALUES {
             let Put::Entries(more) = put_values(
                 passed,
                 v,
-                index(sizes[v]),
+                wide(sizes[v]),
                 y,
                 preferred,
                 costs,

@@ -4,10 +4,11 @@ use mathlib.Core.Option.{Option, none, some}
 use Prim.Native.Nat.{ℕ}
 use lib.Dec.{eqb}
 use Rattle.model.specs.Consistency.{holdsAt}
+use Rattle.clauses.specs.Numbers.{unassigned}
 
 -- what a byte says of a variable: 16 that it is unassigned, else its value
 unfoldable pub given : ℕ → Option ℕ
-given b = elim (eqb b 16) [ true ↦ none | false ↦ some b ]
+given b = elim (eqb b unassigned) [ true ↦ none | false ↦ some b ]
 
 -- whether a literal of this sign and value fails where this is given of its variable
 unfoldable pub failsAt : Option ℕ → ℕ → ℕ → Bool

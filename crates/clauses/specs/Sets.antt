@@ -8,6 +8,7 @@ use lib.ListN.{getD}
 use Rattle.model.specs.Sheet.{Literal}
 use Rattle.model.specs.Consistency.{holdsAt}
 use Rattle.theory.specs.Search.{nth, mentions, satisfiedAt}
+use Rattle.clauses.specs.Numbers.{values, mostClauses, setWords}
 
 -- the bit k of a word, counted from the lowest
 unfoldable pub bit : ℕ → ℕ → Bool
@@ -20,7 +21,7 @@ inWords words at c = bit (getD words (at + c / 64) 0) (c % 64)
 
 -- in the set that the row of a table holds: eight words to a row
 unfoldable pub inSet : List ℕ → ℕ → ℕ → Bool
-inSet table row c = inWords table (row * 8) c
+inSet table row c = inWords table (row * setWords) c
 
 -- no clause is in any row
 abbrev pub Empty : List ℕ → Type 0
@@ -36,11 +37,11 @@ pub record SetIs (m : ℕ) (test : List Literal → Bool) (cs : List (List Liter
 
 -- the row holds the clauses that pass a test
 abbrev pub SetOf : (test : List Literal → Bool) (cs : List (List Literal)) (table : List ℕ) (row : ℕ) → Type 0
-SetOf test cs table row = SetIs 512 test cs (inSet table row)
+SetOf test cs table row = SetIs mostClauses test cs (inSet table row)
 
 -- the set `joined` is the set with the clauses of the row added, if `on`
 pub record Joined (set table : List ℕ) (row : ℕ) (on : Bool) (joined : List ℕ) : Type 0 where
-  pub has : (c : ℕ) → c < 512 → inSet joined 0 c ≡ (inSet set 0 c || on && inSet table row c)
+  pub has : (c : ℕ) → c < mostClauses → inSet joined 0 c ≡ (inSet set 0 c || on && inSet table row c)
 
 -- r says whether, of the first m clauses, each of one set is in another
 pub record Within (m : ℕ) (set other : ℕ → Bool) (r : Bool) : Type 0 where
@@ -49,23 +50,23 @@ pub record Within (m : ℕ) (set other : ℕ → Bool) (r : Bool) : Type 0 where
 
 -- r says whether each clause of the row is among those that `has` names
 abbrev pub Covers : (table : List ℕ) (row : ℕ) (has : ℕ → Bool) (r : Bool) → Type 0
-Covers table row has r = Within 512 (inSet table row) has r
+Covers table row has r = Within mostClauses (inSet table row) has r
 
 -- the row of `after` holds what the row of the table holds and the set does not, and no other row changed
 pub record Less (before table : List ℕ) (row : ℕ) (set after : List ℕ) : Type 0 where
-  pub here : (c : ℕ) → c < 512 → inSet after row c ≡ (inSet table row c && not (inSet set 0 c))
-  pub rest : (r c : ℕ) → c < 512 → (r ≡ row → ⊥) → inSet after r c ≡ inSet before r c
+  pub here : (c : ℕ) → c < mostClauses → inSet after row c ≡ (inSet table row c && not (inSet set 0 c))
+  pub rest : (r c : ℕ) → c < mostClauses → (r ≡ row → ⊥) → inSet after r c ≡ inSet before r c
 
 -- the clause c was put into the rows that `rows` names, and nothing else changed
 pub record Marked (rows : ℕ → Bool) (before : List ℕ) (c : ℕ) (after : List ℕ) : Type 0 where
-  pub has : (r k : ℕ) → k < 512 → inSet after r k ≡ (inSet before r k || eqb k c && rows r)
+  pub has : (r k : ℕ) → k < mostClauses → inSet after r k ≡ (inSet before r k || eqb k c && rows r)
 
 -- the rows of a literal, and of a clause, in a table with a row for each variable and value
 unfoldable pub literalRows : ℕ → ℕ → ℕ → ℕ → Bool
-literalRows variable sign value r = eqb variable (r / 16) && holdsAt (r % 16) sign value
+literalRows variable sign value r = eqb variable (r / values) && holdsAt (r % values) sign value
 
 unfoldable pub clauseRows : List Literal → ℕ → Bool
-clauseRows ls r = satisfiedAt (r / 16) (r % 16) ls
+clauseRows ls r = satisfiedAt (r / values) (r % values) ls
 
 -- the clause c with these literals was put into its rows of both tables
 pub record Entered (ls : List Literal) (c : ℕ) (sat uses sat′ uses′ : List ℕ) : Type 0 where

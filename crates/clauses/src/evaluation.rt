@@ -1,4 +1,7 @@
 // Literals and clauses under an assignment that is lent as bytes.
+use super::sets::PAIR_CLAUSES;
+use limits::UNASSIGNED;
+use limits::wide;
 ghost use mathlib.Core.Path.{_≡_};
 ghost use mathlib.Core.Bool.{true, false};
 ghost use mathlib.Core.List.{map};
@@ -15,13 +18,6 @@ ghost use Rattle.clauses.specs.Tables.{Tables};
 // The word with all its bits.
 const FULL: u64 = 0xffff_ffff_ffff_ffff;
 
-// The byte as an index.
-pub fn wide(x: u8) -> usize
-    ensures { λ r. ⌜ r ≡ x ⌝ }
-{
-    x as usize
-}
-
 // Whether a literal holds where its variable has the value a.
 pub fn holds(a: u8, sign: u8, value: u8) -> bool
     ensures { λ r. ⌜ r ≡ holdsAt a sign value ⌝ }
@@ -36,7 +32,7 @@ pub fn holds(a: u8, sign: u8, value: u8) -> bool
 pub fn literal_fails(a: u8, sign: u8, value: u8) -> bool
     ensures { λ r. ⌜ r ≡ failsAt (given a) sign value ⌝ }
 {
-    if a == 16 {
+    if a == UNASSIGNED {
         return false;
     }
     !holds(a, sign, value)
@@ -65,7 +61,7 @@ fn is_in(first: u64, second: u64, c: usize) -> bool
     if c < 64 {
         return first >> c & 1 == 1;
     }
-    if c < 128 {
+    if c < PAIR_CLAUSES {
         return second >> (c - 64) & 1 == 1;
     }
     false

@@ -17,10 +17,11 @@ use Rattle.theory.proofs.Lists.{all-join, all-at}
 use Rattle.theory.proofs.Agreement.{valid-length}
 use Rattle.theory.proofs.Tables.{tabled-count, tabled-few, tabled-sizes, tabled-clauses, tabled-sized}
 use Rattle.theory.proofs.Words.{words-hold, assignment-length, assignment-small}
+use Rattle.plan.specs.Plans.{planWords}
 use Rattle.clauses.specs.Bytes.{given}
 use Rattle.clauses.specs.Tables.{Prepared}
-use Rattle.consistency.specs.declared.Answer.{Answer}
-use Rattle.consistency.specs.Answers.{testOver, answerOf, leaves, Ended}
+use Rattle.trials.specs.declared.Answer.{Answer}
+use Rattle.trials.specs.Answers.{testOver, answerOf, leaves, Ended}
 use Rattle.consistency.specs.Given.{Given}
 use Rattle.consistency.proofs.Callers.{plant-tables, plant-ended}
 use Rattle.conflict.specs.Given.{Limits, Ready}
@@ -50,7 +51,7 @@ module _ {p : Plant} {d : ℕ} {domains costs counts lits : List ℕ} (t : Table
       ]
 
   -- with the sets made of them, and room for the search, they are ready for the test
-  pub tabled-ready : {sat uses plan : List ℕ} → Prepared (clauses counts lits) sat uses → length plan ≡ 438 → Ready d domains counts lits sat uses plan
+  pub tabled-ready : {sat uses plan : List ℕ} → Prepared (clauses counts lits) sat uses → length plan ≡ planWords → Ready d domains counts lits sat uses plan
   tabled-ready r l = record { limits = tabled-limits; prepared = r; planned = l }
 
   -- the two words, filled up for the state variables, hold the assignment to all variables
@@ -63,11 +64,11 @@ module _ {p : Plant} {d : ℕ} {domains costs counts lits : List ℕ} (t : Table
 -- ---- what the consistency test is given
 
 -- a plan of zeros is room for the search
-pub plan-long : length {A = ℕ} (replicate 438 0) ≡ 438
-plan-long = length-replicate {A = ℕ} 438 0
+pub plan-long : length {A = ℕ} (replicate planWords 0) ≡ planWords
+plan-long = length-replicate {A = ℕ} planWords 0
 
 -- another plan serves as well
-pub ready-again : {d : ℕ} {domains counts lits sat uses plan after : List ℕ} → Ready d domains counts lits sat uses plan → length after ≡ 438 → Ready d domains counts lits sat uses after
+pub ready-again : {d : ℕ} {domains counts lits sat uses plan after : List ℕ} → Ready d domains counts lits sat uses plan → length after ≡ planWords → Ready d domains counts lits sat uses after
 ready-again r l = record { limits = r .limits; prepared = r .prepared; planned = l }
 
 -- the bytes of the variables are the first of these, and are lent to be filled
@@ -96,7 +97,7 @@ module _ {d : ℕ} {domains counts lits sat uses plan : List ℕ} (r : Ready d d
   again = take-at filled (drop (length domains) unfilled) (length domains) same
 
   -- the bytes of two words are what it asks for
-  pub ready-given : Given domains counts lits sat uses (take (length domains) (filled ++ drop (length domains) unfilled)) × (length plan ≡ 438)
+  pub ready-given : Given domains counts lits sat uses (take (length domains) (filled ++ drop (length domains) unfilled)) × (length plan ≡ planWords)
   ready-given = rw again (
     record {
       few = r .limits .few;

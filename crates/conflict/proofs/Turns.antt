@@ -16,9 +16,9 @@ use Rattle.theory.proofs.Agreement.{valid-length, valid-set}
 use Rattle.theory.proofs.ReductionSteps.{reduce-skip, reduce-keep, reduce-lose, reduce-stop}
 use Rattle.theory.proofs.Tables.{tabled-count}
 use Rattle.theory.proofs.Words.{words-hold}
-use Rattle.consistency.specs.declared.Answer.{Answer}
-use Rattle.consistency.specs.Answers.{answerOf}
-use Rattle.consistency.proofs.Endings.{was-consistent, was-inconsistent, was-spent}
+use Rattle.trials.specs.declared.Answer.{Answer}
+use Rattle.trials.specs.Answers.{answerOf}
+use Rattle.trials.proofs.Endings.{was-consistent, was-inconsistent, was-spent}
 use Rattle.conflict.specs.declared.reduce.Reduced.{Reduced}
 use Rattle.conflict.specs.Reduced.{Held, Turned, Reduces}
 use Rattle.conflict.proofs.Given.{as-ended}

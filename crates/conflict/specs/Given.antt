@@ -7,6 +7,7 @@ use Rattle.model.specs.Sheet.{Plant, decisionSizes}
 use Rattle.model.specs.Assignment.{Assignment, Valid}
 use Rattle.theory.specs.Tables.{clauses, Tabled}
 use Rattle.theory.specs.Words.{Words}
+use Rattle.plan.specs.Plans.{planWords}
 use Rattle.clauses.specs.Tables.{Tables, Prepared}
 
 -- tables within the limits: at most 16 decision variables among at most 48, at most 16 values each, and their clauses
@@ -21,7 +22,7 @@ pub record Limits (d : ℕ) (sizes counts lits : List ℕ) : Type 0 where
 pub record Ready (d : ℕ) (sizes counts lits sat uses plan : List ℕ) : Type 0 where
   pub limits : Limits d sizes counts lits
   pub prepared : Prepared (clauses counts lits) sat uses
-  pub planned : length plan ≡ 438
+  pub planned : length plan ≡ planWords
 
 -- P holds of each plant that the tables hold
 abbrev pub ForPlant : ℕ → (sizes counts lits : List ℕ) → (Plant → Type 0) → Type 0

@@ -1,10 +1,13 @@
 // The reduction of a conflict that is given by its two words.
 use super::tests::tested;
-use consistency::Answer;
+use clauses::sets::Sat;
+use plan::Plan;
+use trials::Answer;
 ghost use mathlib.Core.Path.{_≡_};
 ghost use Prim.Native.Nat.{_<_};
 ghost use lib.ListN.{length};
 ghost use Rattle.model.specs.Conflict.{reduce};
+ghost use Rattle.plan.specs.Plans.{planWords};
 ghost use Rattle.conflict.specs.Given.{Ready, ForWords};
 ghost use Rattle.conflict.specs.Reduced.{Turned, Reduces};
 
@@ -20,9 +23,9 @@ fn without(
     sizes: &[u8],
     counts: &[u8],
     lits: &[u8],
-    sat: &[u64; 6144],
+    sat: &Sat,
     uses: &[u64],
-    plan: &mut [u64; 438],
+    plan: &mut Plan,
     mask: u64,
     values: u64,
     v: usize,
@@ -31,7 +34,7 @@ fn without(
 ) -> Reduced
     requires { ⌜ Ready d (now sizes) (now counts) (now lits) (now sat) (now uses) (now plan) × (v < d) ⌝ }
     ensures answer { λ r. ⌜ ForWords d (now (sizes .entry)) (now (counts .entry)) (now (lits .entry)) mask values (λ p c. Turned p limit v c used r) ⌝ }
-    ensures long { λ _. ⌜ length (now (plan .exit)) ≡ 438 ⌝ }
+    ensures long { λ _. ⌜ length (now (plan .exit)) ≡ planWords ⌝ }
 {
     if !words::is_assigned(mask, v) {
         return Reduced::Conflict(mask, values, used);
@@ -62,9 +65,9 @@ pub fn reduce(
     sizes: &[u8],
     counts: &[u8],
     lits: &[u8],
-    sat: &[u64; 6144],
+    sat: &Sat,
     uses: &[u64],
-    plan: &mut [u64; 438],
+    plan: &mut Plan,
     mask: u64,
     values: u64,
     used: u32,
@@ -72,7 +75,7 @@ pub fn reduce(
 ) -> Reduced
     requires { ⌜ Ready d (now sizes) (now counts) (now lits) (now sat) (now uses) (now plan) ⌝ }
     ensures answer { λ r. ⌜ ForWords d (now (sizes .entry)) (now (counts .entry)) (now (lits .entry)) mask values (λ p a. Reduces p (reduce p limit a used) r) ⌝ }
-    ensures long { λ _. ⌜ length (now (plan .exit)) ≡ 438 ⌝ }
+    ensures long { λ _. ⌜ length (now (plan .exit)) ≡ planWords ⌝ }
 {
     let mut m = mask;
     let mut x = values;

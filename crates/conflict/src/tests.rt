@@ -1,5 +1,9 @@
 // The consistency test of an assignment to the decision variables that is given by its two words.
-use consistency::Answer;
+use clauses::sets::Sat;
+use limits::UNASSIGNED;
+use limits::VARIABLES;
+use plan::Plan;
+use trials::Answer;
 ghost use mathlib.Core.Path.{_≡_};
 ghost use mathlib.Core.List.{_++_, map};
 ghost use mathlib.Core.Option.{none};
@@ -8,7 +12,8 @@ ghost use lib.ListN.{length, getD, replicate};
 ghost use Rattle.model.specs.Assignment.{assignmentOf};
 ghost use Rattle.model.specs.Consistency.{test};
 ghost use Rattle.theory.specs.Words.{byte};
-ghost use Rattle.consistency.specs.Answers.{answerOf};
+ghost use Rattle.trials.specs.Answers.{answerOf};
+ghost use Rattle.plan.specs.Plans.{planWords};
 ghost use Rattle.conflict.specs.Given.{Ready, ForWords};
 
 // The byte of the variable v, of which the first d are decision variables.
@@ -40,9 +45,9 @@ pub fn tested(
     sizes: &[u8],
     counts: &[u8],
     lits: &[u8],
-    sat: &[u64; 6144],
+    sat: &Sat,
     uses: &[u64],
-    plan: &mut [u64; 438],
+    plan: &mut Plan,
     mask: u64,
     values: u64,
     used: u32,
@@ -50,9 +55,9 @@ pub fn tested(
 ) -> Answer
     requires { ⌜ Ready d (now sizes) (now counts) (now lits) (now sat) (now uses) (now plan) ⌝ }
     ensures answer { λ r. ⌜ ForWords d (now (sizes .entry)) (now (counts .entry)) (now (lits .entry)) mask values (λ p a. r ≡ answerOf (test p limit a used)) ⌝ }
-    ensures long { λ _. ⌜ length (now (plan .exit)) ≡ 438 ⌝ }
+    ensures long { λ _. ⌜ length (now (plan .exit)) ≡ planWords ⌝ }
 {
-    let mut vals = [16u8; 48];
+    let mut vals = [UNASSIGNED; VARIABLES];
     let n = sizes.len();
     fill(&mut vals[..n], d, mask, values);
     consistency::test(

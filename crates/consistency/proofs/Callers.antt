@@ -4,24 +4,25 @@ use mathlib.Core.List.{List, [], _∷_, map}
 use Prim.Native.Nat.{ℕ, suc, _*_, _≤_}
 use native.Mathlib.Omega.{arith}
 use lib.ListN.{length, length-append}
-use Rattle.model.specs.Lists.{All}
 use Rattle.model.specs.Sheet.{Plant, edition1, decisionSizes, sizes}
-use Rattle.model.specs.Assignment.{Assignment, Under, Valid}
 use Rattle.model.specs.Consistency.{test, overAll}
+use Rattle.model.specs.Lists.{All}
+use Rattle.model.specs.Assignment.{Assignment, Under, Valid}
 use Rattle.theory.specs.Tables.{clauses, total}
 use Rattle.theory.specs.Words.{byte}
 use Rattle.theory.specs.Plant.{Accepted}
 use Rattle.theory.proofs.Lists.{all-map, all-join, all-image}
+use Rattle.theory.proofs.TableClauses.{clauses-length}
 use Rattle.theory.proofs.Agreement.{valid-over}
 use Rattle.theory.proofs.Words.{valid-small}
 use Rattle.theory.proofs.Test.{accepted-present}
-use Rattle.theory.proofs.TableClauses.{clauses-length}
 use Rattle.clauses.specs.Bytes.{given}
+use Rattle.clauses.specs.Numbers.{variables, values}
 use Rattle.clauses.specs.Tables.{Tables}
-use Rattle.consistency.specs.declared.Answer.{Answer}
-use Rattle.consistency.specs.Answers.{testOver, Ended}
-use Rattle.consistency.proofs.Bytes.{given-bytes}
-use Rattle.consistency.proofs.Endings.{moved}
+use Rattle.trials.specs.declared.Answer.{Answer}
+use Rattle.trials.specs.Answers.{testOver, Ended}
+use Rattle.trials.proofs.Bytes.{given-bytes}
+use Rattle.trials.proofs.Endings.{moved}
 
 -- ---- the test of an assignment to the decision variables
 
@@ -38,13 +39,13 @@ map-length f (x ∷ xs) = ap suc (map-length f xs)
 
 module _ (p : Plant) (ok : Accepted edition1 p) where
   -- its domains are small
-  sizes-small : All (λ s. s ≤ 16) (sizes p)
+  sizes-small : All (λ s. s ≤ values) (sizes p)
   sizes-small =
-      all-join (λ s. s ≤ 16) (decisionSizes p) (p .states)
-      (all-image length (λ s. s ≤ 16) (p .costs) (all-map (λ row h. h .1) (p .costs) (ok .decision-sizes)))
+      all-join (λ s. s ≤ values) (decisionSizes p) (p .states)
+      (all-image length (λ s. s ≤ values) (p .costs) (all-map (λ row h. h .1) (p .costs) (ok .decision-sizes)))
       (all-map (λ s h. h .1) (p .states) (ok .state-sizes))
 
-  few : length (sizes p) ≤ 48
+  few : length (sizes p) ≤ variables
   unfolding edition1
   few = omega (arith, length-append (decisionSizes p) (p .states), map-length length (p .costs), ok .decisions, ok .states)
 
@@ -52,7 +53,7 @@ module _ (p : Plant) (ok : Accepted edition1 p) where
     all-valid : Valid (sizes p) (overAll p a)
     all-valid = valid-over (decisionSizes p) (p .states) a valid
 
-    all-small : All (Under 16) (overAll p a)
+    all-small : All (Under values) (overAll p a)
     all-small = valid-small (sizes p) (overAll p a) sizes-small all-valid
 
     -- what the bytes of an assignment give is the assignment

@@ -1,11 +1,2 @@
-pub mod Bytes
 pub mod Callers
-pub mod Endings
-pub mod FirstSets
-pub mod Noted
-pub mod PairTurns
-pub mod Pairs
-pub mod Plans
-pub mod Turns
 pub mod Whole
-pub mod Notes

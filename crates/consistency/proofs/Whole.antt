@@ -11,20 +11,23 @@ use Rattle.model.specs.Sheet.{Literal}
 use Rattle.model.specs.Consistency.{clauseFalse, anyFalse, explore}
 use Rattle.theory.specs.Tables.{clauses}
 use Rattle.theory.specs.Search.{nth}
-use Rattle.theory.proofs.Search.{false-filled}
 use Rattle.theory.proofs.TableClauses.{clauses-length}
+use Rattle.theory.proofs.Search.{false-filled}
 use Rattle.clauses.specs.Bytes.{given}
+use Rattle.clauses.specs.Numbers.{mostClauses, pairClauses}
 use Rattle.clauses.specs.Sets.{inSet, inPair}
 use Rattle.clauses.specs.Tables.{Tables}
 use Rattle.clauses.proofs.Pairs.{pair-past}
-use Rattle.consistency.specs.declared.Answer.{Answer}
-use Rattle.consistency.specs.declared.Answer.the-variants.{Inconsistent}
-use Rattle.consistency.specs.Answers.{testOver, Ended}
-use Rattle.consistency.specs.Given.{Given, Lent, Starts, Bytes, Searches, inPlan, Planned, PlanFor, Searchable, Knows}
-use Rattle.consistency.proofs.Endings.{as-inconsistent, moved}
-use Rattle.consistency.proofs.FirstSets.{from-end}
-use Rattle.consistency.proofs.Pairs.{pair-join}
-use Rattle.consistency.proofs.Turns.{passed-over}
+use Rattle.trials.specs.declared.Answer.{Answer}
+use Rattle.trials.specs.declared.Answer.the-variants.{Inconsistent}
+use Rattle.trials.specs.Answers.{testOver, Ended}
+use Rattle.trials.specs.Searches.{Lent, Starts, Bytes, Searches}
+use Rattle.trials.proofs.Endings.{as-inconsistent, moved}
+use Rattle.trials.proofs.FirstSets.{from-end}
+use Rattle.trials.proofs.Turns.{passed-over}
+use Rattle.plan.specs.Plans.{planWords, inPlan, Planned, PlanFor, Searchable, Knows}
+use Rattle.plan.proofs.Pairs.{pair-join}
+use Rattle.consistency.specs.Given.{Given}
 
 module _ (sizes counts lits sat uses vals : List ℕ) (g : Given sizes counts lits sat uses vals) where
   -- the first question is asked of the same tables
@@ -42,7 +45,7 @@ module _ (sizes counts lits sat uses vals : List ℕ) (g : Given sizes counts li
   }
 
   -- and so is the plan
-  pub lent-plan : (plan : List ℕ) → length plan ≡ 438 → Lent 438 vals sat uses plan
+  pub lent-plan : (plan : List ℕ) → length plan ≡ planWords → Lent planWords vals sat uses plan
   lent-plan plan e = record { few = lent-first plan .few; bytes = g .bytes; sat-long = g .ready .sat-long; uses-long = g .ready .uses-long; long = omega arith }
 
   -- the search has its bytes
@@ -56,7 +59,7 @@ module _ (sizes counts lits sat uses vals : List ℕ) (g : Given sizes counts li
     at-once e = as-inconsistent (testOver (clauses counts lits) sizes limit used (map given vals)) vals vals used (rw (testOver, e)) refl
 
     -- none is: the search from variable 0 decides
-    pub searched : (m : ℕ) → length counts ≤ m → m ≤ 512 → anyFalse (map given vals) (clauses counts lits) ≡ false
+    pub searched : (m : ℕ) → length counts ≤ m → m ≤ mostClauses → anyFalse (map given vals) (clauses counts lits) ≡ false
         → (inDue : ℕ → ℕ → Bool) (inHeld : ℕ → Bool) (after : List ℕ) (r : Answer)
         → {Known : List (List Literal) → Type 0} → Known (clauses counts lits) → Starts m vals sat uses inDue inHeld → Searches m Known sizes (inSet sat) inDue vals inHeld 0 used limit after r
         → Ended (testOver (clauses counts lits) sizes limit used (map given vals)) vals after r
@@ -82,17 +85,17 @@ module _ (sizes counts lits sat uses vals : List ℕ) (g : Given sizes counts li
   -- a clause that is satisfied or left open is not false
   pub settled-clear : (plan : List ℕ) (first held1 held2 open1 open2 : ℕ) → Planned sizes vals sat uses plan first (inPair held1 held2) (inPair open1 open2) 0
       → (c : ℕ) → inPair (bitOr held1 open1) (bitOr held2 open2) c ≡ true → clauseFalse (map given vals) (nth (clauses counts lits) c) ≡ false
-  settled-clear plan first held1 held2 open1 open2 p c e = elim (decLt c 128) [
+  settled-clear plan first held1 held2 open1 open2 p c e = elim (decLt c pairClauses) [
     | yes l ↦
         let cs = clauses counts lits in
         let s = p .sets cs record { below = tables-vals .below; ready = g .ready } in
-        let h = from-end 128 vals cs (inPlan plan) (inPair held1 held2) (inPair open1 open2) s in
+        let h = from-end pairClauses vals cs (inPlan plan) (inPair held1 held2) (inPair open1 open2) s in
         false-filled (map given vals) (nth cs c) 0 tt
         ∙ ap not (sym (ap₂ _||_ (h .holds .has c l) (s .waiting .has c l)) ∙ sym (pair-join held1 held2 open1 open2 c) ∙ e)
     | no l ↦ absurd (true≢false (sym e ∙ pair-past (bitOr held1 open1) (bitOr held2 open2) c (omega arith)))
   ]
 
-  module _ (few : length counts ≤ 128) (plan : List ℕ) (first : ℕ) (inHeld : ℕ → Bool) (open1 open2 : ℕ) (p : Planned sizes vals sat uses plan first inHeld (inPair open1 open2) 0) where
+  module _ (few : length counts ≤ pairClauses) (plan : List ℕ) (first : ℕ) (inHeld : ℕ → Bool) (open1 open2 : ℕ) (p : Planned sizes vals sat uses plan first inHeld (inPair open1 open2) 0) where
     -- the plan was made for what the test is given, and the search stands at the first unassigned variable
     pub plan-first : PlanFor sizes vals plan first
     plan-first = record {
@@ -107,7 +110,7 @@ module _ (sizes counts lits sat uses vals : List ℕ) (g : Given sizes counts li
 
     -- and what it says there decides
     pub planned-searched : Knows sizes sat plan (clauses counts lits) → (limit used : ℕ) → anyFalse (map given vals) (clauses counts lits) ≡ false → (after : List ℕ) (r : Answer)
-        → Searches 128 (Knows sizes sat plan) sizes (inSet sat) (inPlan plan) vals inHeld first used limit after r → Ended (testOver (clauses counts lits) sizes limit used (map given vals)) vals after r
-    planned-searched k limit used e after r deep = searched limit used 128 few (omega arith) e (inPlan plan) inHeld after r k
-        (λ cs k. from-end 128 vals cs (inPlan plan) inHeld (inPair open1 open2) (p .sets cs k))
-        (passed-over 128 _ sizes (inSet sat) (inPlan plan) vals 0 first bytes-first (p .next) inHeld used limit after r deep)
+        → Searches pairClauses (Knows sizes sat plan) sizes (inSet sat) (inPlan plan) vals inHeld first used limit after r → Ended (testOver (clauses counts lits) sizes limit used (map given vals)) vals after r
+    planned-searched k limit used e after r deep = searched limit used pairClauses few (omega arith) e (inPlan plan) inHeld after r k
+        (λ cs k. from-end pairClauses vals cs (inPlan plan) inHeld (inPair open1 open2) (p .sets cs k))
+        (passed-over pairClauses _ sizes (inSet sat) (inPlan plan) vals 0 first bytes-first (p .next) inHeld used limit after r deep)

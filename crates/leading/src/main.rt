@@ -1,14 +1,26 @@
 // Reads a plant sheet from standard input and prints the sixteen leading states of its plant with their costs, then how
-// the run ended; or the number of the refusal. The first 11,357 bytes decide: one more than the longest sheet has.
+// the run ended; or the number of the refusal.
+use answers::print_ending;
+use answers::print_refusal;
 use libc::STDIN_FILENO;
-use listing::call::Answer;
-use listing::call::Counts;
-use steps::run::Ending;
-use vectors::print_hex16;
-use vectors::print_number;
-use vectors::print_text;
+use limits::MOST_WORDS;
+use listing::Answer;
+use listing::Counts;
+use printing::print_hex16;
+use printing::print_number;
+use printing::print_text;
 ghost use Prim.Native.Nat.{_≤_};
 ghost use lib.ListN.{length};
+
+// States wanted, words of the store, and trials that the run may take.
+const WANTED: usize = 16;
+
+const STORE_WORDS: usize = 128;
+
+const TRIALS: u32 = 1_000_000;
+
+// Bytes that decide: one more than the longest sheet has.
+const SHEET_BYTES: usize = 11_357;
 
 // Prints rank, cost and code of each state listed.
 fn print_states(codes: &[u64], costs: &[u32], listed: u32)
@@ -20,16 +32,6 @@ fn print_states(codes: &[u64], costs: &[u32], listed: u32)
         print_number(costs[i] as u64, b' ');
         print_hex16(codes[i], b'\n');
         i += 1;
-    }
-}
-
-// Prints the name of an ending.
-fn print_ending(e: Ending) {
-    match e {
-        Ending::Enough => print_text(b"enough "),
-        Ending::All => print_text(b"all "),
-        Ending::Full => print_text(b"full "),
-        Ending::Spent => print_text(b"spent "),
     }
 }
 
@@ -48,24 +50,21 @@ fn print_counts(c: Counts) {
 
 // Lists the leading states of the sheet's plant and prints them.
 fn answer(sheet: &[u8]) {
-    let mut codes = [0u64; 16];
-    let mut costs = [0u32; 16];
-    let mut queue = [0u64; 8192];
-    let mut store = [0u64; 128];
-    match listing::call::list(
+    let mut codes = [0u64; WANTED];
+    let mut costs = [0u32; WANTED];
+    let mut queue = [0u64; MOST_WORDS];
+    let mut store = [0u64; STORE_WORDS];
+    match listing_call::list(
         sheet,
-        16,
+        WANTED as u32,
         &mut codes,
         &mut costs,
         &mut queue,
         &mut store,
         0,
-        1_000_000,
+        TRIALS,
     ) {
-        Answer::Refused(r) => {
-            print_text(b"refused ");
-            print_number(conflict::calls::number(r) as u64, b'\n');
-        }
+        Answer::Refused(r) => print_refusal(r),
         Answer::Ran(e, c) => {
             print_states(&codes, &costs, c.listed);
             print_ending(e);
@@ -76,7 +75,7 @@ fn answer(sheet: &[u8]) {
 
 // Reads the sheet and answers it.
 fn main() {
-    let mut bytes = [0u8; 11357];
+    let mut bytes = [0u8; SHEET_BYTES];
     let n = io::read_full(STDIN_FILENO, &mut bytes);
     answer(&bytes[..n]);
 }

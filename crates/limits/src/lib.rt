@@ -2,26 +2,31 @@
 // largest plant stand with those tables. The definitions have the same names: `mostListed` is MOST_LISTED.
 ghost use mathlib.Core.Path.{_≡_};
 
-// Decision variables, and with the state variables all variables.
+// Decision variables.
 pub const DECISIONS: usize = 16;
 
+// Decision and state variables together.
 pub const VARIABLES: usize = 48;
 
-// Values of a variable; as a byte in an assignment, one that is unassigned.
+// Values of a variable.
 pub const VALUES: usize = 16;
 
+// The byte of a variable that is unassigned: no value.
 pub const UNASSIGNED: u8 = 16;
 
-// Clauses, and literals of one.
+// Clauses.
 pub const CLAUSES: usize = 512;
 
+// Literals of a clause.
 pub const LITERALS: usize = 15;
 
-// States that a call lists, words of its queue and of its store, and the tests that it counts.
+// States that a call lists.
 pub const MOST_LISTED: u32 = 4096;
 
+// Words of a queue, and of a store.
 pub const MOST_WORDS: usize = 8192;
 
+// Tests that a run counts.
 pub const MOST_TESTED: u32 = 4294967295;
 
 // The byte as an index.

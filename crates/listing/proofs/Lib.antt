@@ -1,4 +1,3 @@
--- The laws behind the proofs: the run's start, the refusals, the answer.
+-- The laws behind the proofs: the run's start, the answer.
 pub mod Starting
-pub mod Refusing
 pub mod Answering

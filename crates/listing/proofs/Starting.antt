@@ -4,6 +4,7 @@ use mathlib.Core.List.{List, [], _∷_, map}
 use Prim.Native.Nat.{ℕ, _/_, _<_}
 use native.Mathlib.Omega.{arith}
 use lib.ListN.{length, replicate}
+use Rattle.plan.specs.Plans.{planWords}
 use Rattle.model.specs.Lists.{place}
 use Rattle.model.specs.Sheet.{Plant, decisionSizes}
 use Rattle.model.specs.Digits.{number, digits}
@@ -21,14 +22,15 @@ use Rattle.theory.proofs.WordsCost.{cost-of-code}
 use Rattle.theory.proofs.Listing.{Survived, offers-survive, start-going}
 use Rattle.queue.specs.Queue.{Holds}
 use Rattle.children.specs.Children.{NodeIs}
-use Rattle.steps.specs.declared.offers.Offered.{Offered}
-use Rattle.steps.specs.declared.run.Progress.{Progress}
-use Rattle.steps.specs.declared.run.Ending.{Ending as Ended}
-use Rattle.steps.specs.declared.run.Finished.{Finished}
-use Rattle.steps.specs.Offers.{OfferedAs}
-use Rattle.steps.specs.Run.{Written, Turn, Steps, FinishedAs}
+use Rattle.offers.specs.declared.Offered.{Offered}
+use Rattle.judge.specs.declared.Progress.{Progress}
+use Rattle.judge.specs.declared.Ending.{Ending as Ended}
+use Rattle.steps.specs.declared.Finished.{Finished}
+use Rattle.offers.specs.Offers.{OfferedAs}
+use Rattle.judge.specs.Standing.{Written, Turn}
+use Rattle.steps.specs.Run.{Steps, FinishedAs}
 use Rattle.steps.proofs.Running.{tabled-lawful, tabled-present, tabled-at-least, tabled-suits}
-use Rattle.listing.specs.Calls.{question, buffers, Lists, Survivors}
+use Rattle.listing.specs.Listing.{question, buffers, Lists, Survivors}
 
 -- ---- the empty assignment as a node
 
@@ -86,7 +88,7 @@ start-written k codes costs queued s = record {
 module _ {d : ℕ} {sizes prices counts lits sat uses plan : List ℕ} {preferred k held : ℕ} {codes costs queue store : List ℕ}
     (t : Lists d sizes prices counts lits sat uses plan preferred k held (buffers codes costs queue store)) where
   -- what the tables give still holds with another plan and another store
-  abbrev pub lists-again : {plan′ store′ : List ℕ} → length plan′ ≡ 438 → Lists d sizes prices counts lits sat uses plan′ preferred k 0 (buffers codes costs queue store′)
+  abbrev pub lists-again : {plan′ store′ : List ℕ} → length plan′ ≡ planWords → Lists d sizes prices counts lits sat uses plan′ preferred k 0 (buffers codes costs queue store′)
   lists-again l = record {
     plant = t .plant;
     tables = record { tabled = t .tables .tabled; prepared = t .tables .prepared; planned = l; preferred-is = t .tables .preferred-is };

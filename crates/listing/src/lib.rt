@@ -1,4 +1,240 @@
-// The listing of the leading states of a plant in lent buffers. `call` starts from a sheet and buffers that may be
-// anything: it says what refuses them, and whose fault that is, or else how the run ended. Step 1 and steps 3 to 7 of
-// document 01 are in `steps`.
-pub mod call;
+// The listing of the leading states of a plant over decoded tables, in lent buffers: what is made of the tables once, steps
+// 1 to 7 (step 2 is its own, step 1 is in `offers`, the others in `steps`), and what is left in the buffers.
+use children::Node;
+use clauses::sets::SAT_WORDS;
+use clauses::sets::Sat;
+use clauses::sets::USES_WORDS;
+use clauses::tables::prepare;
+use judge::Ending;
+use judge::Progress;
+use offers::Offered;
+use offers::check_all;
+use plan::PLAN_WORDS;
+use plan::Plan;
+use refusal::Refusal;
+use steps::Finished;
+use steps::run;
+ghost use mathlib.Core.Path.{_≡_};
+ghost use mathlib.Core.List.{List};
+ghost use Prim.Native.Nat.{ℕ, _*_, _/_, _≤_};
+ghost use lib.ListN.{length};
+ghost use Rattle.model.specs.Sheet.{Plant, decisionSizes};
+ghost use Rattle.model.specs.Assignment.{Assignment, code};
+ghost use Rattle.model.specs.Order.{orderOf};
+ghost use Rattle.model.specs.Listing.{unassigned, start, enoughSteps, run, listing};
+ghost use Rattle.model.specs.Calls.{offersOf};
+ghost use Rattle.theory.specs.Tables.{Tabled};
+ghost use Rattle.children.specs.Children.{NodeIs};
+ghost use Rattle.steps.specs.Run.{FinishedAs};
+ghost use Rattle.listing.specs.Listing.{question, buffers, Room, Lists, Survivors, Finishes, CalledAs, plantCall};
+
+// The counts of a run.
+pub struct Counts {
+    pub listed: u32,
+    pub tested: u32,
+    pub learned: u32,
+    pub unkept: u32,
+    pub trials: u32,
+}
+
+// A refusal, which says whose, or a run with its ending and counts.
+pub enum Answer {
+    Refused(Refusal),
+    Ran(Ending, Counts),
+}
+
+// The empty assignment as a node.
+fn root(preferred: u64, prices: &[u16], d: usize) -> Node
+    requires { ⌜ (d ≤ 16) × (16 * d ≤ length (now prices)) ⌝ }
+    ensures { λ r. ⌜ ((p : Plant) (sizes counts lits : List ℕ) → Tabled p d sizes (now (prices .entry)) counts lits → preferred ≡ code (orderOf p .preferred) → NodeIs p (unassigned (decisionSizes p)) r) ⌝ }
+{
+    Node {
+        mask: 0,
+        code: preferred,
+        cost: words::cost(preferred, prices, d),
+    }
+}
+
+// Steps 2 to 7 with so many survivors in the store and so many trials made.
+fn from_root(
+    d: usize,
+    sizes: &[u8],
+    prices: &[u16],
+    counts: &[u8],
+    lits: &[u8],
+    sat: &Sat,
+    uses: &[u64],
+    plan: &mut Plan,
+    preferred: u64,
+    codes: &mut [u64],
+    costs: &mut [u32],
+    queue: &mut [u64],
+    store: &mut [u64],
+    stored: usize,
+    used: u32,
+    k: u32,
+    limit: u32,
+) -> Finished
+    requires { ⌜ ((t : Lists d (now sizes) (now prices) (now counts) (now lits) (now sat) (now uses) (now plan) preferred k 0 (buffers (now codes) (now costs) (now queue) (now store)))
+        × (survivors : List Assignment) × Survivors (t .plant) limit survivors used (now store) stored) ⌝ }
+    ensures { λ r. ⌜ ((t : Lists d (now (sizes .entry)) (now (prices .entry)) (now (counts .entry)) (now (lits .entry)) (now (sat .entry)) (now (uses .entry)) (now (plan .entry)) preferred k 0 (buffers (now (codes .entry)) (now (costs .entry)) (now (queue .entry)) (now (store .entry))))
+        (survivors : List Assignment) → Survivors (t .plant) limit survivors used (now (store .entry)) stored
+        → FinishedAs (question (t .plant) k (now (codes .entry)) (now (costs .entry))) (now (store .exit)) (now (codes .exit)) (now (costs .exit)) r
+        (run (t .plant) (orderOf (t .plant)) k (length (now (queue .entry)) / 2) (length (now (store .entry)) / 2) limit (enoughSteps (decisionSizes (t .plant))) (start (decisionSizes (t .plant)) survivors used))) ⌝ }
+{
+    let node = root(preferred, prices, d);
+    let e = queue::entry_of(node.mask, node.code, node.cost);
+    queue::push(queue, 0, e.a, e.b);
+    run(
+        d,
+        sizes,
+        prices,
+        counts,
+        lits,
+        sat,
+        uses,
+        plan,
+        preferred,
+        codes,
+        costs,
+        queue,
+        store,
+        Progress {
+            queued: 1,
+            stored: stored,
+            listed: 0,
+            tested: 0,
+            learned: 0,
+            unkept: 0,
+            trials: used,
+        },
+        k,
+        limit,
+    )
+}
+
+// Steps 1 to 7.
+fn listing(
+    d: usize,
+    sizes: &[u8],
+    prices: &[u16],
+    counts: &[u8],
+    lits: &[u8],
+    sat: &Sat,
+    uses: &[u64],
+    plan: &mut Plan,
+    preferred: u64,
+    codes: &mut [u64],
+    costs: &mut [u32],
+    queue: &mut [u64],
+    store: &mut [u64],
+    k: u32,
+    held: usize,
+    limit: u32,
+) -> Finished
+    requires { ⌜ Lists d (now sizes) (now prices) (now counts) (now lits) (now sat) (now uses) (now plan) preferred k held (buffers (now codes) (now costs) (now queue) (now store)) ⌝ }
+    ensures { λ r. ⌜ ((t : Lists d (now (sizes .entry)) (now (prices .entry)) (now (counts .entry)) (now (lits .entry)) (now (sat .entry)) (now (uses .entry)) (now (plan .entry)) preferred k held (buffers (now (codes .entry)) (now (costs .entry)) (now (queue .entry)) (now (store .entry))))
+        → FinishedAs (question (t .plant) k (now (codes .entry)) (now (costs .entry))) (now (store .exit)) (now (codes .exit)) (now (costs .exit)) r
+        (listing (t .plant) (orderOf (t .plant)) k (length (now (queue .entry)) / 2) (length (now (store .entry)) / 2) (offersOf held (now (store .entry))) limit)) ⌝ }
+{
+    match check_all(d, sizes, counts, lits, sat, uses, plan, store, held, limit) {
+        Offered::BrokenOff(m, t) => Finished {
+            ending: Ending::Spent,
+            progress: Progress {
+                queued: 0,
+                stored: m,
+                listed: 0,
+                tested: 0,
+                learned: 0,
+                unkept: 0,
+                trials: t,
+            },
+        },
+        Offered::Checked(m, t) => from_root(
+            d,
+            sizes,
+            prices,
+            counts,
+            lits,
+            sat,
+            uses,
+            plan,
+            preferred,
+            codes,
+            costs,
+            queue,
+            store,
+            m,
+            t,
+            k,
+            limit,
+        ),
+    }
+}
+
+// The queue is zeroed and the store behind its conflicts; the counts are what is left to answer.
+fn finish(queue: &mut [u64], store: &mut [u64], f: Finished) -> Answer
+    requires { ⌜ 2 * f .progress .stored ≤ length (now store) ⌝ }
+    ensures { λ r. ⌜ Finishes f (now (queue .entry)) (now (store .entry)) (now (queue .exit)) (now (store .exit)) r ⌝ }
+{
+    let ending = f.ending;
+    let g = f.progress;
+    queue::clear(queue);
+    store::clear_from(store, g.stored);
+    Answer::Ran(
+        ending,
+        Counts {
+            listed: g.listed,
+            tested: g.tested,
+            learned: g.learned,
+            unkept: g.unkept,
+            trials: g.trials,
+        },
+    )
+}
+
+// The listing over decoded tables.
+pub fn list_tables(
+    d: usize,
+    sizes: &[u8],
+    prices: &[u16],
+    counts: &[u8],
+    lits: &[u8],
+    codes: &mut [u64],
+    costs: &mut [u32],
+    queue: &mut [u64],
+    store: &mut [u64],
+    k: u32,
+    held: usize,
+    limit: u32,
+) -> Answer
+    requires { ⌜ ((p : Plant) × Tabled p d (now sizes) (now prices) (now counts) (now lits)) × Room k held (buffers (now codes) (now costs) (now queue) (now store)) ⌝ }
+    ensures { λ r. ⌜ ((p : Plant) → Tabled p d (now (sizes .entry)) (now (prices .entry)) (now (counts .entry)) (now (lits .entry))
+        → CalledAs r (buffers (now (codes .exit)) (now (costs .exit)) (now (queue .exit)) (now (store .exit)))
+        (plantCall p k (buffers (now (codes .entry)) (now (costs .entry)) (now (queue .entry)) (now (store .entry))) held limit)) ⌝ }
+{
+    let mut sat = [0u64; SAT_WORDS];
+    let mut uses = [0u64; USES_WORDS];
+    let mut plan = [0u64; PLAN_WORDS];
+    prepare(counts, lits, &mut sat, &mut uses);
+    let preferred = preferred::preferred(sizes, prices, d);
+    let f = listing(
+        d,
+        sizes,
+        prices,
+        counts,
+        lits,
+        &sat,
+        &uses,
+        &mut plan,
+        preferred,
+        codes,
+        costs,
+        queue,
+        store,
+        k,
+        held,
+        limit,
+    );
+    finish(queue, store, f)
+}

@@ -8,8 +8,8 @@ use lib.ListN.{length, replicate, take}
 use Rattle.model.specs.Lists.{filled}
 use Rattle.model.specs.Sheet.{Plant, Read, got, Edition, edition1, readSheet, decisionSizes}
 use Rattle.model.specs.Assignment.{Assignment, maskOf, valuesOf, assignmentOf, maskFits, valuesFit, code}
-use Rattle.model.specs.Consistency.{Tested, test}
-use Rattle.model.specs.Conflict.{ReducedAlone, reduceAlone}
+use Rattle.model.specs.Consistency.{Tested, consistent, inconsistent, test}
+use Rattle.model.specs.Conflict.{Reduced, conflict, ReducedAlone, nothing, reduced, reduceAlone}
 use Rattle.model.specs.Order.{Order, orderOf, Entry}
 use Rattle.model.specs.Listing.{State, Ending, enough, all, full, Next, ended, more, Offer, listing}
 
@@ -101,13 +101,21 @@ pub record Called : Type 0 where
 abbrev pub odd : ℕ → Bool
 odd n = eqb (n % 2) 1
 
+-- "k, 1 to 4,096": the most states that a call lists
+abbrev pub mostListed : ℕ
+mostListed = 4096
+
+-- "queue odd, below 2 or above 8,192 words", "store odd, above 8,192 words": the most words of each
+abbrev pub mostWords : ℕ
+mostWords = 8192
+
 -- the host's refusals before the sheet, in this order; `resultShort`: in the export, fewer than six result words
 unfoldable pub hostGrounds : ℕ → Buffers → ℕ → Bool → List Ground
 hostGrounds k b held resultShort =
-    ground (not (leb 1 k && leb k 4096)) 1
+    ground (not (leb 1 k && leb k mostListed)) 1
     ∷ ground (ltb (length (b .codes)) k || ltb (length (b .costs)) k || resultShort) 2
-    ∷ ground (odd (length (b .queue)) || ltb (length (b .queue)) 2 || ltb 8192 (length (b .queue))) 3
-    ∷ ground (odd (length (b .store)) || ltb 8192 (length (b .store)) || ltb (length (b .store) / 2) held) 4
+    ∷ ground (odd (length (b .queue)) || ltb (length (b .queue)) 2 || ltb mostWords (length (b .queue))) 3
+    ∷ ground (odd (length (b .store)) || ltb mostWords (length (b .store)) || ltb (length (b .store) / 2) held) 4
     ∷ []
 
 -- the first n entries of a store's words
@@ -199,3 +207,45 @@ unfoldable pub exportCall : List ℕ → ℕ → Buffers → ℕ → ℕ → Lis
 exportCall sheet k b held limit result =
     let called : Called = listingWith sheet k b held limit (ltb (length result) 6) in
     exportedOf result (called .after) (called .answer)
+
+-- ---- the exports of the test and the reduction
+
+-- the two result words of a test: how it ended, and its trials
+abbrev pub testWords : Tested → List ℕ
+testWords (consistent f t) = 1 ∷ t ∷ []
+testWords (inconsistent t) = 2 ∷ t ∷ []
+testWords (Tested.spent t) = 3 ∷ t ∷ []
+
+-- what the export of the test returns, and the result words after it: words beyond the two are unchanged
+abbrev pub testWritten : List ℕ → Answered Tested → ℕ × List ℕ
+testWritten result (refused r) = (refusalNumber r, result)
+testWritten result (answered e) = (0, filled (testWords e) result)
+
+-- the export of the test; 2: fewer than two result words
+unfoldable pub testExport : List ℕ → ℕ → ℕ → ℕ → List ℕ → ℕ × List ℕ
+testExport sheet mask values limit result = elim (ltb (length result) 2) [ true ↦ (2, result) | false ↦ testWritten result (testCall sheet mask values limit) ]
+
+-- the two result words of a reduction: how it ended, and its trials
+abbrev pub reduceWords : ReducedAlone → List ℕ
+reduceWords (nothing t) = 1 ∷ t ∷ []
+reduceWords (reduced (conflict c t)) = 2 ∷ t ∷ []
+reduceWords (reduced (Reduced.spent t)) = 3 ∷ t ∷ []
+
+-- the two words of the conflict, where one was found
+abbrev pub conflictWords : ReducedAlone → List ℕ
+conflictWords (nothing t) = []
+conflictWords (reduced (conflict c t)) = entryWords (c ∷ [])
+conflictWords (reduced (Reduced.spent t)) = []
+
+-- what the export of the reduction returns, and the words of the conflict and of the result after it: words beyond the two of each are unchanged, and the conflict's all where none was found
+abbrev pub reduceWritten : List ℕ → List ℕ → Answered ReducedAlone → ℕ × List ℕ × List ℕ
+reduceWritten found result (refused r) = (refusalNumber r, found, result)
+reduceWritten found result (answered e) = (0, filled (conflictWords e) found, filled (reduceWords e) result)
+
+-- the export of the reduction; 2: fewer than two words for the conflict or for the result
+unfoldable pub reduceExport : List ℕ → ℕ → ℕ → ℕ → List ℕ → List ℕ → ℕ × List ℕ × List ℕ
+reduceExport sheet mask values limit found result =
+    elim (ltb (length found) 2 || ltb (length result) 2) [
+      | true ↦ (2, found, result)
+      | false ↦ reduceWritten found result (reduceCall sheet mask values limit)
+    ]

@@ -14,7 +14,7 @@ use Rattle.model.specs.Consistency.{Tested, consistent, inconsistent, te
 use Rattle.model.specs.Conflict.{Reduced, conflict, ReducedAlone, nothing, reduced, reduceAlone}
 use Rattle.model.specs.Order.{Order, costThenCode, orderOf, isConsistent, leadingStates, wholeSet}
 use Rattle.model.specs.Listing.{State, Ending, Next, ended, more, resolving, mostTested, spentInTest, judge, listing}
-use Rattle.model.specs.Calls.{byHost, byAuthor, Answered, refused, answered, Called, ran, wordGrounds, onWords, testCall, reduceCall, exportedOf, exportCall, Exported}
+use Rattle.model.specs.Calls.{byHost, byAuthor, Answered, refused, answered, Called, ran, wordGrounds, onWords, testCall, reduceCall, exportedOf, exportCall, Exported, testExport, reduceExport}
 use Rattle.model.specs.Examples.{Settings, Shown, refusal, shown, call, shows, plain, lent, tail, small, emptyClause, damaged, seventeen, both, selector, three}
 
 -- ---- more sheets
@@ -309,6 +309,48 @@ pub reductions-are : reductions ≡
     ∷ []
 unfolding reductions call tail small emptyClause reduceCall onWords wordGrounds reduceAlone
 reductions-are = refl
+
+-- their exports: each answer, with a word behind the two; too short a buffer, which comes before the sheet; the host's refusal and the author's
+unfoldable pub testExports : List (ℕ × List ℕ)
+unfolding call
+testExports =
+    testExport small selector 0x1000000000000000 1000 (7 ∷ 8 ∷ 9 ∷ [])
+    ∷ testExport small both 0 1000 (7 ∷ 8 ∷ [])
+    ∷ testExport small both 0 1 (7 ∷ 8 ∷ [])
+    ∷ testExport edition2 0 0 1000 (7 ∷ [])
+    ∷ testExport small 0x2000000000000000 1 1000 (7 ∷ 8 ∷ [])
+    ∷ testExport edition2 0 0 1000 (7 ∷ 8 ∷ [])
+    ∷ []
+
+pub testExports-are : testExports ≡ (0, 1 ∷ 2 ∷ 9 ∷ []) ∷ (0, 2 ∷ 2 ∷ []) ∷ (0, 3 ∷ 1 ∷ []) ∷ (2, 7 ∷ []) ∷ (14, 7 ∷ 8 ∷ []) ∷ (6, 7 ∷ 8 ∷ []) ∷ []
+unfolding testExports call tail small edition2 testCall onWords wordGrounds testExport
+testExports-are = refl
+
+unfoldable pub reduceExports : List (ℕ × List ℕ × List ℕ)
+unfolding call
+reduceExports =
+    reduceExport small both 0 1000 (4 ∷ 5 ∷ 6 ∷ []) (7 ∷ 8 ∷ 9 ∷ [])
+    ∷ reduceExport small both 0x1000000000000000 1000 (4 ∷ 5 ∷ []) (7 ∷ 8 ∷ [])
+    ∷ reduceExport small both 0 4 (4 ∷ 5 ∷ []) (7 ∷ 8 ∷ [])
+    ∷ reduceExport emptyClause both 0 1000 (4 ∷ 5 ∷ []) (7 ∷ 8 ∷ [])
+    ∷ reduceExport edition2 0 0 1000 (4 ∷ []) (7 ∷ 8 ∷ [])
+    ∷ reduceExport edition2 0 0 1000 (4 ∷ 5 ∷ []) (7 ∷ [])
+    ∷ reduceExport small selector 0x2000000000000000 1000 (4 ∷ 5 ∷ []) (7 ∷ 8 ∷ [])
+    ∷ reduceExport edition2 0 0 1000 (4 ∷ 5 ∷ []) (7 ∷ 8 ∷ [])
+    ∷ []
+
+pub reduceExports-are : reduceExports ≡
+    (0, both ∷ 0 ∷ 6 ∷ [], 2 ∷ 12 ∷ 9 ∷ [])
+    ∷ (0, 4 ∷ 5 ∷ [], 1 ∷ 1 ∷ [])
+    ∷ (0, 4 ∷ 5 ∷ [], 3 ∷ 4 ∷ [])
+    ∷ (0, 0 ∷ 0 ∷ [], 2 ∷ 0 ∷ [])
+    ∷ (2, 4 ∷ [], 7 ∷ 8 ∷ [])
+    ∷ (2, 4 ∷ 5 ∷ [], 7 ∷ [])
+    ∷ (15, 4 ∷ 5 ∷ [], 7 ∷ 8 ∷ [])
+    ∷ (6, 4 ∷ 5 ∷ [], 7 ∷ 8 ∷ [])
+    ∷ []
+unfolding reduceExports call tail small emptyClause edition2 reduceCall onWords wordGrounds reduceAlone reduceExport
+reduceExports-are = refl
 
 -- ---- single steps, and the whole set
 

@@ -1,5 +1,7 @@
 // Each decision variable's cheapest value, the lowest on a tie, found once a run from the plant's tables and handed on as
 // one word: the code of the preferred values. A best state is made from it without a look at the costs.
+use limits::VALUES;
+use limits::wide;
 ghost use mathlib.Core.Path.{_≡_};
 ghost use mathlib.Core.List.{List};
 ghost use Prim.Native.Nat.{ℕ, _*_, _<_, _≤_};
@@ -27,13 +29,6 @@ pub fn cheapest(row: &[u16], size: usize) -> usize
     best
 }
 
-// A size as a number of values to look at.
-fn wide(size: u8) -> usize
-    ensures { λ r. ⌜ r ≡ size ⌝ }
-{
-    size as usize
-}
-
 // The code of the cheapest values of the d decision variables, from the tables of a plant.
 pub fn preferred(sizes: &[u8], costs: &[u16], d: usize) -> u64
     requires { ⌜ (d ≤ 16) × (d ≤ length (now sizes)) × (16 * d ≤ length (now costs)) × All Sized (take d (now sizes)) ⌝ }
@@ -42,7 +37,7 @@ pub fn preferred(sizes: &[u8], costs: &[u16], d: usize) -> u64
     let mut word: u64 = 0;
     let mut v = 0;
     while v < d {
-        let row = 16 * v;
+        let row = VALUES * v;
         let x = cheapest(&costs[row..], wide(sizes[v]));
         word += (x as u64) << (60 - 4 * v);
         v += 1;

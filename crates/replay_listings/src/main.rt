@@ -1,15 +1,16 @@
 // Replays the listings that `outside/vectors.py listings` writes: reads them from standard input, makes each call in
 // buffers of the lengths and words that the case says, and prints its answer and a checksum of every lent word. What it
 // must print was written by the outside program.
-use listing::call::Answer;
-use listing::call::Counts;
+use answers::print_ending;
+use answers::print_refusal;
+use listing::Answer;
+use listing::Counts;
+use printing::print_hex8;
+use printing::print_number;
 use std::num::wrapping_add_u64;
-use steps::run::Ending;
+use vectors::CHECKSUM_START;
 use vectors::mixed_all_u32;
 use vectors::mixed_all_u64;
-use vectors::print_hex8;
-use vectors::print_number;
-use vectors::print_text;
 use vectors::read_block;
 use vectors::read_u16;
 use vectors::read_u32;
@@ -17,7 +18,7 @@ use vectors::read_u64;
 ghost use mathlib.Core.Path.{_≡_};
 ghost use Prim.Native.Nat.{_≤_};
 ghost use lib.ListN.{length};
-ghost use Rattle.vectors.specs.Bytes.{over, mix32, mix64};
+ghost use Rattle.vectors.specs.Bytes.{checksumStart, over, mix32, mix64};
 
 // Makes every word junk plus its own place.
 fn fill(words: &mut [u64], junk: u64) {
@@ -43,22 +44,12 @@ fn read_words(words: &mut [u64], n: usize)
 
 // The checksum of every lent word.
 fn checksum(codes: &[u64], costs: &[u32], queue: &[u64], store: &[u64]) -> u32
-    ensures { λ r. ⌜ r ≡ over mix64 (over mix64 (over mix32 (over mix64 2166136261 (now (codes .entry))) (now (costs .entry))) (now (queue .entry))) (now (store .entry)) ⌝ }
+    ensures { λ r. ⌜ r ≡ over mix64 (over mix64 (over mix32 (over mix64 checksumStart (now (codes .entry))) (now (costs .entry))) (now (queue .entry))) (now (store .entry)) ⌝ }
 {
-    let coded = mixed_all_u64(2166136261, codes);
+    let coded = mixed_all_u64(CHECKSUM_START, codes);
     let priced = mixed_all_u32(coded, costs);
     let queued = mixed_all_u64(priced, queue);
     mixed_all_u64(queued, store)
-}
-
-// Prints the name of an ending.
-fn print_ending(e: Ending) {
-    match e {
-        Ending::Enough => print_text(b"enough "),
-        Ending::All => print_text(b"all "),
-        Ending::Full => print_text(b"full "),
-        Ending::Spent => print_text(b"spent "),
-    }
 }
 
 // Prints the counts of a run.
@@ -81,11 +72,8 @@ fn answer(
     held: usize,
     limit: u32,
 ) {
-    match listing::call::list(sheet, k, codes, costs, queue, store, held, limit) {
-        Answer::Refused(r) => {
-            print_text(b"refused ");
-            print_number(conflict::calls::number(r) as u64, b'\n');
-        }
+    match listing_call::list(sheet, k, codes, costs, queue, store, held, limit) {
+        Answer::Refused(r) => print_refusal(r),
         Answer::Ran(e, c) => {
             print_ending(e);
             print_counts(c);

@@ -1,16 +1,24 @@
 // Replays the sheets that `outside/vectors.py sheets` writes: reads plant sheets from standard input and prints a line for
 // each, the refusal's number or the counts and a checksum of the decoded tables. What it must print was written by the
 // outside reader.
+use limits::VALUES;
+use printing::print_hex8;
+use printing::print_number;
+use printing::print_text;
 use sheet::Answer;
+use sheet::CLAUSE_BYTES;
+use sheet::COST_ENTRIES;
+use sheet::COUNT_ENTRIES;
+use sheet::LITERAL_BYTES;
+use sheet::SIZE_ENTRIES;
+use vectors::CHECKSUM_START;
 use vectors::mixed_all;
 use vectors::mixed_u16;
-use vectors::print_hex8;
-use vectors::print_number;
-use vectors::print_text;
 use vectors::read_block;
 use vectors::read_u16;
 ghost use Prim.Native.Nat.{_≤_};
 ghost use lib.ListN.{length};
+ghost use Rattle.readings.specs.Lengths.{sizeEntries, costEntries, countEntries, literalBytes};
 
 // The checksum with the first costs of a row, as many as its size says.
 fn mixed_row(hash: u32, row: &[u16], size: u8) -> u32 {
@@ -28,27 +36,30 @@ fn mixed_row(hash: u32, row: &[u16], size: u8) -> u32 {
 
 // The checksum with the costs of d decision variables, whose rows have sixteen places each.
 fn mixed_rows(hash: u32, sizes: &[u8], costs: &[u16], d: usize) -> u32
-    requires { ⌜ (d ≤ 16) × (16 ≤ length (now sizes)) × (256 ≤ length (now costs)) ⌝ }
+    requires { ⌜ (d ≤ 16) × (16 ≤ length (now sizes)) × (costEntries ≤ length (now costs)) ⌝ }
 {
     let mut h = hash;
     let mut v = 0;
     while v < d {
-        let at = 16 * v;
-        let end = at + 16;
+        let at = VALUES * v;
+        let end = at + VALUES;
         h = mixed_row(h, &costs[at..end], sizes[v]);
         v += 1;
     }
     h
 }
 
+// Where the literals of the last clause begin at most.
+const LAST_CLAUSE: usize = LITERAL_BYTES - CLAUSE_BYTES;
+
 // The bytes of as many literals as the counts say, three each.
 fn literal_bytes(counts: &[u8]) -> usize
-    ensures { λ r. ⌜ r ≤ 23040 ⌝ }
+    ensures { λ r. ⌜ r ≤ literalBytes ⌝ }
 {
     let mut n = 0;
     let mut i = 0;
     while i < counts.len() {
-        if n > 22995 {
+        if n > LAST_CLAUSE {
             return n;
         }
         n += 3 * (counts[i] as usize % 16);
@@ -67,10 +78,10 @@ fn checksum(
     counts: &[u8],
     lits: &[u8],
 ) -> u32
-    requires { ⌜ (d ≤ 16) × (s ≤ 32) × (c ≤ 512) × (48 ≤ length (now sizes)) × (256 ≤ length (now costs)) × (512 ≤ length (now counts)) × (23040 ≤ length (now lits)) ⌝ }
+    requires { ⌜ (d ≤ 16) × (s ≤ 32) × (c ≤ 512) × (sizeEntries ≤ length (now sizes)) × (costEntries ≤ length (now costs)) × (countEntries ≤ length (now counts)) × (literalBytes ≤ length (now lits)) ⌝ }
 {
     let all = d + s;
-    let sized = mixed_all(2166136261, &sizes[..all]);
+    let sized = mixed_all(CHECKSUM_START, &sizes[..all]);
     let priced = mixed_rows(sized, sizes, costs, d);
     let counted = mixed_all(priced, &counts[..c]);
     let n = literal_bytes(&counts[..c]);
@@ -79,10 +90,10 @@ fn checksum(
 
 // Decodes a sheet and prints its line.
 fn answer(bytes: &[u8]) {
-    let mut sizes = [0u8; 48];
-    let mut costs = [0u16; 256];
-    let mut counts = [0u8; 512];
-    let mut lits = [0u8; 23040];
+    let mut sizes = [0u8; SIZE_ENTRIES];
+    let mut costs = [0u16; COST_ENTRIES];
+    let mut counts = [0u8; COUNT_ENTRIES];
+    let mut lits = [0u8; LITERAL_BYTES];
     match sheet::read(bytes, &mut sizes, &mut costs, &mut counts, &mut lits) {
         Answer::Refused(number) => {
             print_text(b"refused ");

@@ -1,25 +1,17 @@
 // Reads tests and reductions from standard input, as outside/vectors.py writes them, makes each call and prints its answer.
 // What it must print was written by the outside program.
-use conflict::calls::ReduceAnswer;
-use conflict::calls::Refusal;
-use conflict::calls::TestAnswer;
-use vectors::print_hex16;
-use vectors::print_number;
-use vectors::print_text;
+use answers::print_refusal;
+use conflict_call::ReduceAnswer;
+use conflict_call::TestAnswer;
+use printing::print_hex16;
+use printing::print_number;
+use printing::print_text;
+use refusal::Refusal;
 use vectors::read_block;
 use vectors::read_u8;
 use vectors::read_u16;
 use vectors::read_u32;
 use vectors::read_u64;
-
-// Prints the number of a refusal.
-fn refused(r: Refusal) {
-    print_text(b"refused ");
-    match r {
-        Refusal::Host(n) => print_number(n as u64, b'\n'),
-        Refusal::Author(n) => print_number(n as u64, b'\n'),
-    }
-}
 
 // Prints a word and the trials.
 fn tried(word: &[u8], trials: u32) {
@@ -29,8 +21,8 @@ fn tried(word: &[u8], trials: u32) {
 
 // Tests and prints the answer.
 fn test(sheet: &[u8], mask: u64, values: u64, limit: u32) {
-    match conflict::calls::test_call(sheet, mask, values, limit) {
-        TestAnswer::Refused(r) => refused(r),
+    match conflict_call::test_call(sheet, mask, values, limit) {
+        TestAnswer::Refused(r) => print_refusal(r),
         TestAnswer::Consistent(t) => tried(b"consistent ", t),
         TestAnswer::Inconsistent(t) => tried(b"inconsistent ", t),
         TestAnswer::Spent(t) => tried(b"spent ", t),
@@ -39,8 +31,8 @@ fn test(sheet: &[u8], mask: u64, values: u64, limit: u32) {
 
 // Reduces and prints the answer.
 fn reduce(sheet: &[u8], mask: u64, values: u64, limit: u32) {
-    match conflict::calls::reduce_call(sheet, mask, values, limit) {
-        ReduceAnswer::Refused(r) => refused(r),
+    match conflict_call::reduce_call(sheet, mask, values, limit) {
+        ReduceAnswer::Refused(r) => print_refusal(r),
         ReduceAnswer::None(t) => tried(b"none ", t),
         ReduceAnswer::Spent(t) => tried(b"spent ", t),
         ReduceAnswer::Conflict(m, v, t) => {

@@ -1,64 +1,18 @@
--- Each way through the readings that go field by field: what the reading is, by what its fields and rules were. Assumes nothing.
+-- Each way through the readings of the head and of the end: what the reading is, by what its fields and rules were. Assumes nothing.
 use mathlib.Core.Path.{_≡_, refl, ap, _∙_}
 use mathlib.Core.List.{List}
-use mathlib.Core.Bool.{Bool, true, false}
+use mathlib.Core.Bool.{true, false}
 use Prim.Native.Nat.{ℕ, zero, suc, _+_, _-_, _*_, _%_, _^_, _≤_, _<_}
 use native.Mathlib.Nat.{add-zero, zero-mul, suc-mul}
 use lib.Pow.{pow-pos}
 use native.Mathlib.Omega.{arith}
-use lib.ListN.{length, getD}
-use borrow.Author.Tests.{lt-ltb, le-ltb, le-leb, lt-leb, eq-eqb, ne-eqb}
-use Rattle.model.specs.Sheet.{Read, refused, got, then, field, edition1, decisionsAllowed, readLiteral, readFiller, readEnd, readBody, readSheet, Plant, bitAt, bitsAt}
+use lib.Dec.{leb}
+use lib.ListN.{length}
+use borrow.Author.Tests.{le-leb, lt-leb, eq-eqb, ne-eqb}
+use Rattle.model.specs.Sheet.{Read, refused, got, then, field, edition1, decisionsAllowed, readFiller, readEnd, readBody, readSheet, Plant, bitAt, bitsAt}
 use Rattle.model.specs.Digits.{number}
-
--- a reading gave something, or refused; a rule held, or failed
-module _ {A B : Type 0} where
-  pub on : {r : Read A} {a : A} {place : ℕ} {z : Read B} (next : A → ℕ → Read B) → r ≡ got a place → next a place ≡ z → then r next ≡ z
-  unfolding then
-  on next h e = ap (λ r. then r next) h ∙ e
-
-  pub halt : {r : Read A} {k : ℕ} (next : A → ℕ → Read B) → r ≡ refused k → then r next ≡ refused k
-  unfolding then
-  halt next h = ap (λ r. then r next) h
-
-module _ {A : Type 0} where
-  pass : {t : Bool} (k : ℕ) (next : Read A) {z : Read A} → t ≡ true → next ≡ z → (elim t [ false ↦ refused k | true ↦ next ]) ≡ z
-  pass k next h e = rw h e
-
-  fail : {t : Bool} (k : ℕ) (next : Read A) → t ≡ false → _≡_ {A = Read A} (elim t [ false ↦ refused k | true ↦ next ]) (refused k)
-  fail k next h = rw h
-
--- a literal, whose fields stand at its place, 6 and 7 bits on
-module _ (sheet domains : List ℕ) (place : ℕ) where
-  pub variable-past : {k : ℕ} → field sheet 6 place ≡ refused k → readLiteral edition1 sheet domains place ≡ refused k
-  unfolding readLiteral
-  variable-past h = halt _ h
-
-  module _ {v : ℕ} (first : field sheet 6 place ≡ got v (place + 6)) where
-    pub variable-absent : length domains ≤ v → readLiteral edition1 sheet domains place ≡ refused 10
-    unfolding readLiteral
-    variable-absent h = on _ first (fail 10 _ (le-ltb v (length domains) h))
-
-    module _ (present : v < length domains) where
-      pub sign-past : {k : ℕ} → field sheet 1 (place + 6) ≡ refused k → readLiteral edition1 sheet domains place ≡ refused k
-      unfolding readLiteral
-      sign-past h = on _ first (pass 10 _ (lt-ltb v (length domains) present) (halt _ h))
-
-      module _ {s : ℕ} (second : field sheet 1 (place + 6) ≡ got s (place + 6 + 1)) where
-        pub value-past : {k : ℕ} → field sheet 4 (place + 6 + 1) ≡ refused k → readLiteral edition1 sheet domains place ≡ refused k
-        unfolding readLiteral
-        value-past h = on _ first (pass 10 _ (lt-ltb v (length domains) present) (on _ second (halt _ h)))
-
-        module _ {x : ℕ} (third : field sheet 4 (place + 6 + 1) ≡ got x (place + 6 + 1 + 4)) where
-          pub value-outside : getD domains v 0 ≤ x → readLiteral edition1 sheet domains place ≡ refused 11
-          unfolding readLiteral
-          value-outside h = on _ first (pass 10 _ (lt-ltb v (length domains) present) (on _ second (on _ third (fail 11 _ (le-ltb x (getD domains v 0) h)))))
-
-          pub literal-got : x < getD domains v 0 → readLiteral edition1 sheet domains place ≡ got (record { variable = v; sign = s; value = x }) (place + 11)
-          unfolding readLiteral
-          literal-got h =
-              let e : place + 6 + 1 + 4 ≡ place + 11 = omega arith in
-              on _ first (pass 10 _ (lt-ltb v (length domains) present) (on _ second (on _ third (pass 11 _ (lt-ltb x (getD domains v 0) h) (rw e)))))
+use Rattle.readings.specs.Lengths.{headBits}
+use Rattle.readings.proofs.Ways.{on, halt, pass, fail}
 
 -- the rule about decision variables
 pub decisions-none : (d : ℕ) → d < 1 → decisionsAllowed edition1 d ≡ false
@@ -73,50 +27,61 @@ pub decisions-allowed : (d : ℕ) → 1 ≤ d → d ≤ 16 → decisionsAllowed 
 unfolding decisionsAllowed edition1
 decisions-allowed d h k = rw (le-leb 1 d h, le-leb d 16 k)
 
--- the edition and the counts, whose fields stand at bits 0, 8, 13 and 19
+-- the edition and the counts, whose fields stand at bits 0, 8, 13 and 19: what has been read and is allowed
+pub record EditionRead (sheet : List ℕ) (n : ℕ) : Type 0 where
+  pub field-is : field sheet 8 0 ≡ got n 8
+  pub allowed : n ≡ 1
+
+pub record DecisionsRead {sheet : List ℕ} {n : ℕ} (e : EditionRead sheet n) (d : ℕ) : Type 0 where
+  pub field-is : field sheet 5 8 ≡ got d 13
+  pub allowed : decisionsAllowed edition1 d ≡ true
+
+pub record StatesRead {sheet : List ℕ} {n d : ℕ} {e : EditionRead sheet n} (q : DecisionsRead e d) (s : ℕ) : Type 0 where
+  pub field-is : field sheet 6 13 ≡ got s 19
+  pub allowed : s ≤ 32
+
 module _ (sheet : List ℕ) where
   pub edition-past : {k : ℕ} → field sheet 8 0 ≡ refused k → readSheet edition1 sheet ≡ refused k
   unfolding readSheet
   edition-past h = halt _ h
 
-  module _ {n : ℕ} (first : field sheet 8 0 ≡ got n 8) where
-    pub edition-other : (n ≡ 1 → ⊥) → readSheet edition1 sheet ≡ refused 6
+  pub edition-other : {n : ℕ} → field sheet 8 0 ≡ got n 8 → (n ≡ 1 → ⊥) → readSheet edition1 sheet ≡ refused 6
+  unfolding readSheet edition1
+  edition-other {n} first h = on _ first (fail 6 _ (ne-eqb n 1 h))
+
+module _ {sheet : List ℕ} where
+  module _ {n : ℕ} (e : EditionRead sheet n) where
+    pub decisions-past : {k : ℕ} → field sheet 5 8 ≡ refused k → readSheet edition1 sheet ≡ refused k
     unfolding readSheet edition1
-    edition-other h = on _ first (fail 6 _ (ne-eqb n 1 h))
+    decisions-past h = on _ (e .field-is) (pass 6 _ (eq-eqb n 1 (e .allowed)) (halt _ h))
 
-    module _ (edition : n ≡ 1) where
-      pub decisions-past : {k : ℕ} → field sheet 5 8 ≡ refused k → readSheet edition1 sheet ≡ refused k
-      unfolding readSheet edition1
-      decisions-past h = on _ first (pass 6 _ (eq-eqb n 1 edition) (halt _ h))
+    pub decisions-other : {d : ℕ} → field sheet 5 8 ≡ got d 13 → decisionsAllowed edition1 d ≡ false → readSheet edition1 sheet ≡ refused 7
+    unfolding readSheet edition1
+    decisions-other second h = on _ (e .field-is) (pass 6 _ (eq-eqb n 1 (e .allowed)) (on _ second (fail 7 _ h)))
 
-      module _ {d : ℕ} (second : field sheet 5 8 ≡ got d 13) where
-        pub decisions-other : decisionsAllowed edition1 d ≡ false → readSheet edition1 sheet ≡ refused 7
-        unfolding readSheet edition1
-        decisions-other h = on _ first (pass 6 _ (eq-eqb n 1 edition) (on _ second (fail 7 _ h)))
+  module _ {n d : ℕ} {e : EditionRead sheet n} (q : DecisionsRead e d) where
+    pub states-past : {k : ℕ} → field sheet 6 13 ≡ refused k → readSheet edition1 sheet ≡ refused k
+    unfolding readSheet edition1
+    states-past h = on _ (e .field-is) (pass 6 _ (eq-eqb n 1 (e .allowed)) (on _ (q .field-is) (pass 7 _ (q .allowed) (halt _ h))))
 
-        module _ (allowed : decisionsAllowed edition1 d ≡ true) where
-          pub states-past : {k : ℕ} → field sheet 6 13 ≡ refused k → readSheet edition1 sheet ≡ refused k
-          unfolding readSheet edition1
-          states-past h = on _ first (pass 6 _ (eq-eqb n 1 edition) (on _ second (pass 7 _ allowed (halt _ h))))
+    pub states-many : {s : ℕ} → field sheet 6 13 ≡ got s 19 → 32 < s → readSheet edition1 sheet ≡ refused 8
+    unfolding readSheet edition1
+    states-many {s} third h = on _ (e .field-is) (pass 6 _ (eq-eqb n 1 (e .allowed)) (on _ (q .field-is) (pass 7 _ (q .allowed) (on _ third (fail 8 _ (lt-leb s 32 h))))))
 
-          module _ {s : ℕ} (third : field sheet 6 13 ≡ got s 19) where
-            pub states-many : 32 < s → readSheet edition1 sheet ≡ refused 8
-            unfolding readSheet edition1
-            states-many h = on _ first (pass 6 _ (eq-eqb n 1 edition) (on _ second (pass 7 _ allowed (on _ third (fail 8 _ (lt-leb s 32 h))))))
+  module _ {n d s : ℕ} {e : EditionRead sheet n} {q : DecisionsRead e d} (r : StatesRead q s) where
+    -- what is left to be read then
+    rest : {z : Read Plant} → then (field sheet 10 19) (λ c after. elim (leb c 512) [ false ↦ refused 9 | true ↦ readBody edition1 sheet d s c after ]) ≡ z → readSheet edition1 sheet ≡ z
+    unfolding readSheet edition1
+    rest h = on _ (e .field-is) (pass 6 _ (eq-eqb n 1 (e .allowed)) (on _ (q .field-is) (pass 7 _ (q .allowed) (on _ (r .field-is) (pass 8 _ (le-leb s 32 (r .allowed)) h)))))
 
-            module _ (few : s ≤ 32) where
-              pub clauses-past : {k : ℕ} → field sheet 10 19 ≡ refused k → readSheet edition1 sheet ≡ refused k
-              unfolding readSheet edition1
-              clauses-past h = on _ first (pass 6 _ (eq-eqb n 1 edition) (on _ second (pass 7 _ allowed (on _ third (pass 8 _ (le-leb s 32 few) (halt _ h))))))
+    pub clauses-past : {k : ℕ} → field sheet 10 19 ≡ refused k → readSheet edition1 sheet ≡ refused k
+    clauses-past h = rest (halt _ h)
 
-              module _ {c : ℕ} (fourth : field sheet 10 19 ≡ got c 29) where
-                pub clauses-many : 512 < c → readSheet edition1 sheet ≡ refused 9
-                unfolding readSheet edition1
-                clauses-many h = on _ first (pass 6 _ (eq-eqb n 1 edition) (on _ second (pass 7 _ allowed (on _ third (pass 8 _ (le-leb s 32 few) (on _ fourth (fail 9 _ (lt-leb c 512 h))))))))
+    pub clauses-many : {c : ℕ} → field sheet 10 19 ≡ got c headBits → 512 < c → readSheet edition1 sheet ≡ refused 9
+    clauses-many {c} fourth h = rest (on _ fourth (fail 9 _ (lt-leb c 512 h)))
 
-                pub head-got : c ≤ 512 → readSheet edition1 sheet ≡ readBody edition1 sheet d s c 29
-                unfolding readSheet edition1
-                head-got h = on _ first (pass 6 _ (eq-eqb n 1 edition) (on _ second (pass 7 _ allowed (on _ third (pass 8 _ (le-leb s 32 few) (on _ fourth (pass 9 _ (le-leb c 512 h) refl)))))))
+    pub head-got : {c : ℕ} → field sheet 10 19 ≡ got c headBits → c ≤ 512 → readSheet edition1 sheet ≡ readBody edition1 sheet d s c headBits
+    head-got {c} fourth h = rest (on _ fourth (pass 9 _ (le-leb c 512 h) refl))
 
 -- the filler is zero exactly where it is zero as a number
 module _ (sheet : List ℕ) where

@@ -4,6 +4,7 @@ use mathlib.Core.Path.{_≡_}
 use mathlib.Core.List.{List, map}
 use lib.ListN.{length, take}
 use Rattle.theory.specs.Tables.{total, rows}
+use Rattle.readings.specs.Lengths.{clauseBytes}
 
 -- the counts' bounds, that a row is as long as its size says, and that the literals are there
 pub record Held (d s c : ℕ) (sizes costs counts lits : List ℕ) : Type 0 where
@@ -12,4 +13,4 @@ pub record Held (d s c : ℕ) (sizes costs counts lits : List ℕ) : Type 0 wher
   pub states : s ≤ 32
   pub clauses : c ≤ 512
   pub lengths : map length (rows (take d sizes) costs) ≡ take d sizes
-  pub room : 3 * total (take c counts) ≤ 45 * c
+  pub room : 3 * total (take c counts) ≤ clauseBytes * c

@@ -1,5 +1,3 @@
--- The laws behind the proofs: step 1, steps 3 to 7, the run.
-pub mod Offering
-pub mod Judging
-pub mod Expanding
+-- The laws behind the proofs: step 3, the run.
+pub mod Removing
 pub mod Running

@@ -4,6 +4,7 @@ use mathlib.Core.List.{List, [], _∷_}
 use Prim.Native.Nat.{ℕ, zero, suc, _/_, _≤_, _<_, _+_}
 use native.Mathlib.Omega.{arith}
 use lib.ListN.{length, take}
+use Rattle.plan.specs.Plans.{planWords}
 use Rattle.model.specs.Lists.{All}
 use Rattle.model.specs.Sheet.{Plant, edition1, decisionSizes}
 use Rattle.model.specs.Assignment.{Assignment, Valid, assignmentOf}
@@ -25,10 +26,11 @@ use Rattle.queue.specs.Queue.{Holds}
 use Rattle.queue.proofs.SumLaws.{sum-map}
 use Rattle.queue.proofs.EntryLaws.{maskIn, valuesIn, node-back}
 use Rattle.queue.proofs.Callers.{cost-suits}
-use Rattle.steps.specs.Run.{Question, Turn, Steps, NextIs, FinishedAs}
-use Rattle.steps.specs.declared.run.Progress.{Progress}
-use Rattle.steps.specs.declared.run.Ending.{Ending as Ended}
-use Rattle.steps.specs.declared.run.Next.{Next as After}
+use Rattle.judge.specs.declared.Progress.{Progress}
+use Rattle.judge.specs.declared.Ending.{Ending as Ended}
+use Rattle.judge.specs.declared.Next.{Next as After}
+use Rattle.judge.specs.Standing.{Question, Turn, NextIs}
+use Rattle.steps.specs.Run.{Steps, FinishedAs}
 
 -- ---- what an accepted plant's tables give
 
@@ -87,7 +89,7 @@ module _ {d : ℕ} {sizes prices counts lits sat uses plan : List ℕ} {preferre
   reached-start fuel h = record { state = t .state; left = fuel; turn = t .turn; enough = h; same = refl }
 
   -- a turn may begin
-  abbrev pub reached-steps : {whole : Next} {plan′ codes′ costs′ queue′ store′ : List ℕ} {g′ : Progress} → length plan′ ≡ 438
+  abbrev pub reached-steps : {whole : Next} {plan′ codes′ costs′ queue′ store′ : List ℕ} {g′ : Progress} → length plan′ ≡ planWords
       → Reached (t .question) k limit whole queue′ store′ codes′ costs′ g′ → Steps d sizes prices counts lits sat uses plan′ preferred k limit codes′ costs′ queue′ store′ g′
   reached-steps l r = record {
     question = t .question;
@@ -115,20 +117,20 @@ module _ {q : Question} {k limit : ℕ} {whole : Next} {queue store codes costs 
       go (suc n) l = rw (run, h)
 
   module _ (queue′ store′ codes′ costs′ : List ℕ) where
-    pub reached-end : (ending : Ended) (last : Progress) → NextIs q queue′ store′ codes′ costs′ (After.Ended ending last) stepped
+    pub reached-end : {x : After} (ending : Ended) (last : Progress) → x ≡ After.Ended ending last → NextIs q queue′ store′ codes′ costs′ x stepped
         → FinishedAs q store′ codes′ costs′ (record { ending = ending; progress = last }) whole
-    reached-end ending last n = go stepped refl n
+    reached-end ending last f n = go stepped refl (rw f at n)
       where
         go : (x : Next) → stepped ≡ x → NextIs q queue′ store′ codes′ costs′ (After.Ended ending last) x → FinishedAs q store′ codes′ costs′ (record { ending = ending; progress = last }) whole
         go (ended e s) h n = record { state = s; ends = run-ended e s h ∙ ap (λ (f : Ending). ended f s) (sym (n .0)); written = n .1 }
         go (more s) h n = absurd n
 
     -- a step after which it goes on, with a lighter queue
-    pub reached-next : {d : ℕ} {sizes prices counts lits : List ℕ} → Tabled (q .plant) d sizes prices counts lits → q .wanted ≡ k
-        → length queue′ ≡ length queue → length store′ ≡ length store → (next : Progress) → NextIs q queue′ store′ codes′ costs′ (After.More next) stepped
+    pub reached-next : {d : ℕ} {sizes prices counts lits : List ℕ} {x : After} → Tabled (q .plant) d sizes prices counts lits → q .wanted ≡ k
+        → length queue′ ≡ length queue → length store′ ≡ length store → (next : Progress) → x ≡ After.More next → NextIs q queue′ store′ codes′ costs′ x stepped
         → Reached q k limit whole queue′ store′ codes′ costs′ next × (queueWeight (take d sizes) (next .queued) queue′ < queueWeight (take d sizes) (g .queued) queue)
     unfolding run
-    reached-next {d} {sizes} t asked le ls next n = go stepped refl n again
+    reached-next {d} {sizes} t asked le ls next f n = go stepped refl (rw f at n) again
       where
         ss : List ℕ
         ss = decisionSizes (q .plant)

@@ -1,88 +1,12 @@
--- What the words of a run stand for between its steps, and what a step makes of them. Assumes nothing: these are definitions.
+-- What a step and a run are given, and how a run ends. Assumes nothing: these are definitions.
 use mathlib.Core.Path.{_≡_}
-use mathlib.Core.List.{List, _∷_, map}
-use Prim.Native.Nat.{ℕ, _*_, _≤_, _<_}
-use lib.ListN.{length}
-use Rattle.model.specs.Lists.{filled}
-use Rattle.model.specs.Sheet.{Plant}
-use Rattle.model.specs.Assignment.{Assignment, code}
-use Rattle.model.specs.Order.{orderOf}
-use Rattle.model.specs.Listing.{State, Ending, enough, all, full, spent, Next, ended, more, mostTested}
-use Rattle.theory.specs.Run.{Going}
-use Rattle.theory.specs.Tables.{clauses, Tabled}
-use Rattle.clauses.specs.Tables.{Prepared}
-use Rattle.queue.specs.Queue.{Holds}
-use Rattle.store.specs.Store.{Keeps}
-use Rattle.children.specs.declared.Node.{Node}
-use Rattle.children.specs.declared.Put.{Put}
-use Rattle.children.specs.Children.{NodeIs}
-use Rattle.steps.specs.declared.run.Progress.{Progress}
-use Rattle.steps.specs.declared.run.Ending.{Ending as Ended}
-use Rattle.steps.specs.declared.run.Next.{Next as After}
-use Rattle.steps.specs.declared.run.Finished.{Finished}
-
--- what a run is about: the plant, how many states are wanted, and what codes and costs held before
-pub record Question : Type 0 where
-  pub plant : Plant
-  pub wanted : ℕ
-  pub codes : List ℕ
-  pub costs : List ℕ
-
--- a plant's tables, with what is made of them once, the sets of clauses and the code of the preferred values, and room for the search
-pub record Tables (p : Plant) (d : ℕ) (sizes prices counts lits sat uses plan : List ℕ) (preferred : ℕ) : Type 0 where
-  pub tabled : Tabled p d sizes prices counts lits
-  pub prepared : Prepared (clauses counts lits) sat uses
-  pub planned : length plan ≡ 438
-  pub preferred-is : preferred ≡ code (orderOf p .preferred)
-
--- the store, the list and the counts are those of a state
-pub record Written (q : Question) (store codes costs : List ℕ) (g : Progress) (s : State) : Type 0 where
-  pub keeps : Keeps (length (q .plant .costs)) store (g .stored) (s .store)
-  pub codes-are : codes ≡ filled (map code (s .listed)) (q .codes)
-  pub costs-are : costs ≡ filled (map (orderOf (q .plant) .figure) (s .listed)) (q .costs)
-  pub listed-is : g .listed ≡ length (s .listed)
-  pub tested-is : g .tested ≡ s .tested
-  pub learned-is : g .learned ≡ s .learned
-  pub unkept-is : g .unkept ≡ s .unkept
-  pub trials-is : g .trials ≡ s .trials
-
--- and the queue holds these nodes
-pub record Standing (q : Question) (queue store codes costs : List ℕ) (g : Progress) (s : State) (nodes : List Assignment) : Type 0 where
-  pub holds : Holds (orderOf (q .plant)) (g .queued) queue nodes
-  pub room : 2 * g .queued ≤ length queue
-  pub written : Written q store codes costs g s
-
--- ---- a step
-
--- the words stand for a state of a run that goes on
-pub record Turn (q : Question) (limit : ℕ) (queue store codes costs : List ℕ) (g : Progress) (s : State) (nodes : List Assignment) : Type 0 where
-  pub survivors : List Assignment
-  pub going : Going (q .plant) (orderOf (q .plant)) (q .wanted) limit survivors s
-  pub standing : Standing q queue store codes costs g s nodes
-  pub codes-room : q .wanted ≤ length (q .codes)
-  pub costs-room : q .wanted ≤ length (q .costs)
-
--- a node has been removed, and fewer states are listed than are wanted
-pub record Removed (q : Question) (limit : ℕ) (queue store codes costs : List ℕ) (g : Progress) (node : Node) : Type 0 where
-  pub state : State
-  pub parent : Assignment
-  pub rest : List Assignment
-  pub turn : Turn q limit queue store codes costs g state rest
-  pub removed : state .queue ≡ parent ∷ rest
-  pub is : NodeIs (q .plant) parent node
-  pub wanting : length (state .listed) < q .wanted
-
--- no count can go beyond its greatest
-pub record CanCount (g : Progress) : Type 0 where
-  pub tested-less : g .tested < mostTested
-  pub learned-less : g .learned ≤ g .tested
-  pub unkept-less : g .unkept ≤ g .tested
-
--- the same with the plant's tables
-pub record Expands (d : ℕ) (sizes prices counts lits sat uses plan : List ℕ) (preferred limit : ℕ) (codes costs queue store : List ℕ) (g : Progress) (node : Node) : Type 0 where
-  pub question : Question
-  pub tables : Tables (question .plant) d sizes prices counts lits sat uses plan preferred
-  pub taken : Removed question limit queue store codes costs g node
+use mathlib.Core.List.{List}
+use Prim.Native.Nat.{ℕ}
+use Rattle.model.specs.Listing.{State, Next, ended}
+use Rattle.judge.specs.declared.Progress.{Progress}
+use Rattle.judge.specs.Standing.{Question, Written, Turn, endingOf}
+use Rattle.expand.specs.Expands.{Tables}
+use Rattle.steps.specs.declared.Finished.{Finished}
 
 -- before step 3
 pub record Steps (d : ℕ) (sizes prices counts lits sat uses plan : List ℕ) (preferred k limit : ℕ) (codes costs queue store : List ℕ) (g : Progress) : Type 0 where
@@ -91,30 +15,6 @@ pub record Steps (d : ℕ) (sizes prices counts lits sat uses plan : List ℕ) (
   pub asked : question .wanted ≡ k
   pub tables : Tables (question .plant) d sizes prices counts lits sat uses plan preferred
   pub turn : Turn question limit queue store codes costs g state (state .queue)
-
--- ---- what a step made
-
--- the ending's name in the model
-abbrev pub endingOf : Ended → Ending
-endingOf Ended.Enough = enough
-endingOf Ended.All = all
-endingOf Ended.Full = full
-endingOf Ended.Spent = spent
-
--- what a step made of the words is what it makes of the state
-abbrev pub NextIs : Question → (queue store codes costs : List ℕ) → After → Next → Type 0
-NextIs q queue store codes costs (After.More g) (more s) = Standing q queue store codes costs g s (s .queue)
-NextIs q queue store codes costs (After.Ended e g) (ended f s) = (endingOf e ≡ f) × Written q store codes costs g s
-NextIs q queue store codes costs (After.More g) (ended f s) = ⊥
-NextIs q queue store codes costs (After.Ended e g) (more s) = ⊥
-
--- `put`: what becomes of the progress
-abbrev pub PutNext : Progress → Put → After → Type 0
-PutNext g Put.Full n = n ≡ After.Ended Ended.Full g
-PutNext g (Put.Entries m) n =
-    n ≡ After.More (record { queued = m; stored = g .stored; listed = g .listed; tested = g .tested; learned = g .learned; unkept = g .unkept; trials = g .trials })
-
--- ---- the run
 
 -- the run has ended as the model's does
 pub record FinishedAs (q : Question) (store codes costs : List ℕ) (f : Finished) (n : Next) : Type 0 where

@@ -6,7 +6,7 @@ use mathlib.Core.List.{List, [], _∷_, _++_, map, map-append, map-map}
 use Prim.Native.Nat.{ℕ, zero, suc, _+_, _-_, _*_, _^_, _≤_, _<_}
 use native.Mathlib.Omega.{arith}
 use native.Mathlib.Nat.{mod-eq-of-lt}
-use lib.Bits.{bitAnd, bitOr, bitXor, and-lt, xor-lt, and-zero-r, or-zero-l, or-zero-r, xor-zero-r, xor-self, and-mask, and-le-l, and-le-r, xor-add-and}
+use lib.Bits.{bitAnd, bitOr, bitXor, and-lt, xor-lt, and-zero-r, xor-self, and-mask, and-le-l, and-le-r, xor-add-and}
 use lib.Dec.{eqb}
 use lib.ListN.{length, replicate, length-map}
 use borrow.Author.Tests.{eq-eqb, ne-eqb, eqb-true, eqb-false}
@@ -14,7 +14,7 @@ use Rattle.model.specs.Lists.{All}
 use Rattle.model.specs.Digits.{number}
 use Rattle.model.specs.Assignment.{Assignment, Agree, Under, bit, nibble, allZero, code}
 use Rattle.model.specs.Conflict.{contains, manifests, differs, resolves}
-use Rattle.model.specs.Order.{valueOr, best}
+use Rattle.model.specs.Order.{best}
 use Rattle.theory.specs.Digits.{Below}
 use Rattle.theory.specs.Words.{Wide, fifteen, wideOf}
 use Rattle.theory.proofs.Agreement.{agree-length}
@@ -141,11 +141,6 @@ differs-nibble none p u t = rw (and-zero-r (bitXor 0 (nibble p)))
 differs-nibble (some x) none u t = rw (and-zero-r (bitAnd (bitXor x 0) 15))
 differs-nibble (some x) (some y) u t = rw (whole (bitAnd (bitXor x y) 15) (and-lt 4 (bitXor x y) 15 (xor-lt 4 x y u t) (omega arith)), masked-zero x y u t)
 
--- the nibble of the variable's value, or else of the preferred one
-best-nibble : (x : ℕ) (o : Option ℕ) → x < 16 → bitOr (nibble o) (bitXor x (bitAnd x (spread o))) ≡ valueOr x o
-best-nibble x none h = rw (and-zero-r x, xor-zero-r x) (or-zero-l x)
-best-nibble x (some y) h = rw (whole x h, xor-self x) (or-zero-r y)
-
 -- ---- all variables
 
 -- a negated conjunction
@@ -178,14 +173,6 @@ differing-all (o ∷ n) (p ∷ c) e s t =
     not-and (eqb (bitAnd (bitAnd (bitXor (nibble o) (nibble p)) (spread o)) (spread p)) 0) (allZero (differing n c))
     ∙ ap₂ _||_ (differs-nibble o p (s .0) (t .0)) (differing-all n c (omega arith) (s .1) (t .1))
 
--- each nibble of a best state
-best-all : (preferred : List ℕ) (a : Assignment) → length preferred ≡ length a → Below 16 preferred
-    → each bitOr (map nibble a) (each bitXor preferred (each bitAnd preferred (map spread a))) ≡ best preferred a
-best-all [] [] e l = refl
-best-all [] (o ∷ a) e l = absurd (omega arith)
-best-all (x ∷ preferred) [] e l = absurd (omega arith)
-best-all (x ∷ preferred) (o ∷ a) e l = ap₂ (λ (y : ℕ) (r : List ℕ). y ∷ r) (best-nibble x o (l .0)) (best-all preferred a (omega arith) (l .1))
-
 -- ---- the words
 
 module _ (n c : Assignment) (wn vn wc vc : ℕ) (p : Wide n wn vn) (q : Wide c wc vc) (e : length n ≡ length c) where
@@ -208,13 +195,6 @@ module _ (n c : Assignment) (wn vn wc vc : ℕ) (p : Wide n wn vn) (q : Wide c w
   resolves-word =
       ap not (nibbles-zero (and-nibbles (and-nibbles difference (wide-nibbles n wn vn p)) conflict-wide) (p .words .short))
       ∙ differing-all n c e (p .words .small) (q .words .small)
-
--- the word of a best state, from the values and the widened mask of a node and the code of the preferred values
-pub best-word : (preferred : List ℕ) (a : Assignment) (wide values : ℕ) → Wide a wide values → length preferred ≡ length a → Below 16 preferred
-    → bitOr values (bitXor (code preferred) (bitAnd (code preferred) wide)) ≡ code (best preferred a)
-best-word preferred a wide values w e l =
-    let c : Nibbles (length a) (code preferred) preferred = record { is = refl; below = l; long = e } in
-    or-nibbles (values-nibbles a wide values w) (xor-nibbles c (and-nibbles c (wide-nibbles a wide values w))) .is ∙ ap (number 16 16) (best-all preferred a e l)
 
 -- values that extend an assignment, at the nibbles of the widened mask, are its values
 each-masked : (f : List ℕ) (a : Assignment) → Agree f a → Below 16 f → each bitAnd f (map spread a) ≡ map nibble a

@@ -8,6 +8,10 @@ unfoldable pub over : (ℕ → ℕ → ℕ) → ℕ → List ℕ → ℕ
 over f n [] = n
 over f n (byte ∷ bytes) = over f (f n byte) bytes
 
+-- the checksum of no bytes
+abbrev pub checksumStart : ℕ
+checksumStart = 2166136261
+
 -- the checksum with one byte more
 abbrev pub mix : ℕ → ℕ → ℕ
 mix hash byte = bitXor hash byte * 16777619 % 4294967296

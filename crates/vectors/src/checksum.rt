@@ -2,6 +2,9 @@
 ghost use mathlib.Core.Path.{_≡_};
 ghost use Rattle.vectors.specs.Bytes.{over, mix, mix16, mix32, mix64};
 
+// The checksum of no bytes.
+pub const CHECKSUM_START: u32 = 2166136261;
+
 // The checksum with one byte more.
 pub fn mixed(hash: u32, byte: u8) -> u32
     ensures { λ r. ⌜ r ≡ mix hash byte ⌝ }

@@ -5,16 +5,18 @@
 // variable.
 ghost use mathlib.Core.Path.{_≡_};
 ghost use mathlib.Core.List.{List};
-ghost use mathlib.Core.Option.{none, some};
+ghost use mathlib.Core.Option.{none};
 ghost use Prim.Native.Nat.{ℕ, _*_, _<_, _≤_};
 ghost use lib.ListN.{length, getD, take, drop, set};
 ghost use lib.Dec.{eqb};
 ghost use Rattle.model.specs.Digits.{digits};
-ghost use Rattle.model.specs.Assignment.{Assignment, assignmentOf, isSome, isFull, allZero, nibbleFits, maskFits, valuesFit, wellFormed, code};
+ghost use Rattle.model.specs.Assignment.{Assignment, assignmentOf, isSome, isFull, allZero, nibbleFits, maskFits, valuesFit, wellFormed};
 ghost use Rattle.model.specs.Conflict.{manifests, resolves};
-ghost use Rattle.model.specs.Order.{best, cost};
-ghost use Rattle.theory.specs.Digits.{Below};
+ghost use Rattle.model.specs.Order.{cost};
 ghost use Rattle.theory.specs.Words.{Words, byte, wideOf, Wide, sixteens};
+use limits::DECISIONS;
+use limits::UNASSIGNED;
+use limits::VALUES;
 
 // The two words of an assignment.
 pub struct Pair {
@@ -52,7 +54,7 @@ pub fn value(mask: u64, values: u64, v: usize) -> u8
     ensures { λ r. ⌜ ((d : ℕ) → d ≤ 16 → v < d → r ≡ byte (getD (assignmentOf d mask values) v none)) ⌝ }
 {
     if bit_at(mask, v) == 0 {
-        return 16;
+        return UNASSIGNED;
     }
     nibble_at(values, v) as u8
 }
@@ -64,17 +66,6 @@ pub fn is_full(mask: u64, d: usize) -> bool
     u64::count_ones(mask) as usize == d
 }
 
-// Gives an unassigned variable a value.
-pub fn assign(mask: u64, values: u64, v: usize, x: u64) -> Pair
-    requires { ⌜ (v < 16) × (x < 16) ⌝ }
-    ensures { λ r. ⌜ ((a : Assignment) → Words a mask values → v < length a → getD a v none ≡ none → Words (set a v (some x)) (r .mask) (r .values)) ⌝ }
-{
-    Pair {
-        mask: mask | (1 << (63 - v)),
-        values: values | (x << (60 - 4 * v)),
-    }
-}
-
 // Takes a variable's value away, if it has one.
 pub fn remove(mask: u64, values: u64, v: usize) -> Pair
     requires { ⌜ v < 16 ⌝ }
@@ -84,15 +75,6 @@ pub fn remove(mask: u64, values: u64, v: usize) -> Pair
         mask: mask ^ (bit_at(mask, v) << (63 - v)),
         values: values ^ (nibble_at(values, v) << (60 - 4 * v)),
     }
-}
-
-// Gives a variable a value, whether it had one or not.
-pub fn reassign(mask: u64, values: u64, v: usize, x: u64) -> Pair
-    requires { ⌜ (v < 16) × (x < 16) ⌝ }
-    ensures { λ r. ⌜ ((a : Assignment) → Words a mask values → v < length a → Words (set a v (some x)) (r .mask) (r .values)) ⌝ }
-{
-    let free = remove(mask, values, v);
-    assign(free.mask, free.values, v, x)
 }
 
 // Whether no bit of the mask is set beyond the first d variables; where one is, that is refusal 14.
@@ -118,7 +100,7 @@ fn after(values: u64, d: usize) -> u64
     requires { ⌜ d ≤ 16 ⌝ }
     ensures { λ r. ⌜ eqb r 0 ≡ allZero (drop d (digits 16 16 values)) ⌝ }
 {
-    if d == 16 {
+    if d == DECISIONS {
         return 0;
     }
     values << (4 * d)
@@ -184,13 +166,6 @@ pub fn resolves(values: u64, wide: u64, conflict_values: u64, conflict_wide: u64
     (values ^ conflict_values) & wide & conflict_wide != 0
 }
 
-// The code of a node's best state, from its values, its widened mask and the code of the preferred values.
-pub fn best_values(values: u64, wide: u64, preferred: u64) -> u64
-    ensures { λ r. ⌜ ((a : Assignment) (ps : List ℕ) → Wide a wide values → preferred ≡ code ps → length ps ≡ length a → Below 16 ps → r ≡ code (best ps a)) ⌝ }
-{
-    values | (preferred ^ (preferred & wide))
-}
-
 // A variable's value in a code, as an index.
 pub fn digit_at(code: u64, v: usize) -> usize
     requires { ⌜ v < 16 ⌝ }
@@ -215,7 +190,7 @@ pub fn cost(code: u64, costs: &[u16], d: usize) -> u32
     let mut v = 0;
     while v < d {
         let x = digit_at(code, v);
-        sum += summand(costs[16 * v + x]);
+        sum += summand(costs[VALUES * v + x]);
         v += 1;
     }
     sum

@@ -12,16 +12,16 @@ lowest-free-requires c κs = search needs
 returns : tie.Need-returns
 returns c s t = branch-none s t _ (c .before .lowest-free .ensures .1) (c .if1 .taken)
 
-shared-slice-read-index : tie.Need-shared-slice-read-index
-shared-slice-read-index c = search needs
+shared-slice-read-wide : tie.Need-shared-slice-read-wide
+shared-slice-read-wide c = search needs
 
-index-requires : tie.Need-index-requires
-index-requires c κs = search needs
+wide-requires : tie.Need-wide-requires
+wide-requires c κs = search needs
 
 put-values-requires : tie.Need-put-values-requires
 put-values-requires c κs =
     let g = c .before .before .before .before .before .before .before .before .before in
-    (omega arith, omega (arith, c .before .index .ensures, size-small (g .args .d) (g .args .sizes .now) (c .before .before .before .before .lowest-free .result) (g .pre .3) (omega arith)), omega arith, g .pre .4)
+    (omega arith, omega (arith, c .before .wide .ensures, size-small (g .args .d) (g .args .sizes .now) (c .before .before .before .before .lowest-free .result) (g .pre .3) (omega arith)), omega arith, g .pre .4)
 
 same-length : tie.Need-same-length
 same-length c = search needs
@@ -29,7 +29,7 @@ same-length c = search needs
 returns-2 : tie.Need-returns-2
 returns-2 c s t =
     let v = c .before .before .before .before .before .before .before .lowest-free in
-    let i = c .before .before .before .before .index .ensures in
+    let i = c .before .before .before .before .wide .ensures in
     branch-puts s t _ (v .ensures .1) _ _ _ i (omega arith) (c .before .before .put-values .ensures s (branch-free s t _ (v .ensures .1) (omega arith)) (i ∙ size-is t _ (omega arith)))
 
 pub branch-spec : {M : Type 1} → statement M
@@ -38,8 +38,8 @@ branch-spec =
     (tie.spec
     lowest-free-requires
     returns
-    shared-slice-read-index
-    index-requires
+    shared-slice-read-wide
+    wide-requires
     put-values-requires
     same-length
     returns-2)

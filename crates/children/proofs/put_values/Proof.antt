@@ -51,14 +51,14 @@ loop-less c = omega arith
 
 loop-again : tie.Need-loop-again Inv-loop μ-loop
 loop-again c =
-    let a = c .before .before .before .before .before .before .before .before .before .before .before .before .args in
-    let l = c .before .before .before .before .before .before .before .before .loop in
-    let p = c .before .before .before .before .before .put-value in (
+    let p = c .before .before .before .before .before in
+    let l = p .before .before .before in
+    let a = l .before .before .before .before .args in (
       omega arith,
-      p .kept .1 .1 .1 .1 .1 .1 .0 ∙ l .inv .1,
+      p .put-value .kept .1 .1 .1 .1 .1 .1 .0 ∙ l .loop .inv .1,
       λ s f e.
-          let so-far = l .inv .2 s f e in
-          next-put s (a .v) (a .but) (l .x) _ _ (l .inv .1) so-far _ _ (rw (c .before .more .given .1) at (p .ensures (onward s _ _ _ (l .inv .1) so-far) f (omega arith))),
+          let so-far = l .loop .inv .2 s f e in
+          next-put s (a .v) (a .but) (l .loop .x) _ _ (l .loop .inv .1) so-far _ _ (rw (c .before .more .given .1) at (p .put-value .ensures (onward s _ _ _ (l .loop .inv .1) so-far) f (omega arith))),
     )
 
 same-length-2 : tie.Need-same-length-2 Inv-loop μ-loop

@@ -28,17 +28,17 @@ loop-holds c = (omega arith, refl, λ s t k w valid. midway-start s k valid)
 wanted-requires : tie.Need-wanted-requires Inv-loop μ-loop
 wanted-requires c κs = omega arith
 
-shared-slice-read-index : tie.Need-shared-slice-read-index Inv-loop μ-loop
-shared-slice-read-index c = omega arith
+shared-slice-read-wide : tie.Need-shared-slice-read-wide Inv-loop μ-loop
+shared-slice-read-wide c = omega arith
 
-index-requires : tie.Need-index-requires Inv-loop μ-loop
-index-requires c κs = search needs
+wide-requires : tie.Need-wide-requires Inv-loop μ-loop
+wide-requires c κs = search needs
 
 put-values-requires : tie.Need-put-values-requires Inv-loop μ-loop
 put-values-requires c κs =
     let g = c .before .before .before .before .before .before .before .before .before .before .before in
     let l = c .before .before .before .before .before .before .loop in
-    (omega arith, omega (arith, c .before .index .ensures, size-small (g .args .d) (g .args .sizes .now) (l .v) (g .pre .3) (omega arith)), omega arith, g .pre .4)
+    (omega arith, omega (arith, c .before .wide .ensures, size-small (g .args .d) (g .args .sizes .now) (l .v) (g .pre .3) (omega arith)), omega arith, g .pre .4)
 
 enum-known-more : tie.Need-enum-known-more Inv-loop μ-loop
 enum-known-more c = search needs
@@ -55,7 +55,7 @@ returns c s tables k w valid =
     let t = c .before .before .before .before .before .before .before .before .before .before .loop-test .taken in
     let y = c .before .before .before .before .before .before .before .before .before .wanted in
     let z = c .before .before .before .before .before .before .before .before .if1 .taken in
-    let i = c .before .before .before .before .before .before .index .ensures in
+    let i = c .before .before .before .before .before .before .wide .ensures in
     let h = l .inv .2 s tables k w valid in
     midway-full s k valid tables _ _ _ _ h (l .inv .1) t _ _ _ w (y .ensures) z _
     (rw (c .enum-told .given .1, i) at
@@ -108,8 +108,8 @@ resolve-spec =
     μ-loop
     loop-holds
     wanted-requires
-    shared-slice-read-index
-    index-requires
+    shared-slice-read-wide
+    wide-requires
     put-values-requires
     enum-known-more
     enum-told

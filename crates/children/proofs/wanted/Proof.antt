@@ -17,14 +17,14 @@ returns c n d others w x e l = let v = c .before .before .args .v in member-held
 value-requires : tie.Need-value-requires
 value-requires c κs = search needs
 
-index-requires : tie.Need-index-requires
-index-requires c κs = search needs
+wide-requires : tie.Need-wide-requires
+wide-requires c κs = search needs
 
 returns-2 : tie.Need-returns-2
 returns-2 c n d others w x e l =
     let v = c .before .before .before .before .args .v in
-    c .index .ensures ∙ value-is x (omega arith) _ (c .before .value .ensures)
+    c .wide .ensures ∙ value-is x (omega arith) _ (c .before .value .ensures)
     ∙ member-free (getD n v none) (getD d v none) (sym (assigned-is w l _ (c .before .before .before .is-assigned .ensures)) ∙ c .before .before .if1 .left)
 
 pub wanted-spec : {M : Type 1} → statement M
-wanted-spec = tie.close (tie.spec is-assigned-requires returns value-requires index-requires returns-2)
+wanted-spec = tie.close (tie.spec is-assigned-requires returns value-requires wide-requires returns-2)

@@ -2,9 +2,10 @@
 use mathlib.Core.Path.{sym, _∙_}
 use mathlib.Core.Bool.{true≢false}
 use native.Mathlib.Omega.{arith}
-use Rattle.consistency.proofs.FirstSets.{none-in-pair}
-use Rattle.consistency.proofs.Whole.{tables-vals, lent-first, bytes-first, at-once, searched}
 use borrow.Author.Needs.{needs}
+use Rattle.clauses.specs.Numbers.{mostClauses}
+use Rattle.trials.proofs.FirstSets.{none-in-pair}
+use Rattle.consistency.proofs.Whole.{tables-vals, lent-first, bytes-first, at-once, searched}
 use Rattle.consistency.proofs.test_rows.Statement.{statement}
 use Rattle.consistency.proofs.test_rows.Tie as tie
 
@@ -29,7 +30,8 @@ slice-aggregate-search c = search needs
 
 search-requires : tie.Need-search-requires
 search-requires c κs =
-    let g = c .before .before .before .before .before .before .before .before .before .before .before .before .before .before .before .before .pre in
+    let i = c .before .before .before .before .before .before .before .before in
+    let g = i .before .before .before .before .before .before .before .before .pre in
     record { bytes = bytes-first _ _ _ _ _ _ g; sat-long = g .ready .sat-long; last-long = omega (arith, c .before .before .before .before .start .kept .1 .1 .1 .0) }
 
 same-length-2 : tie.Need-same-length-2
@@ -37,9 +39,9 @@ same-length-2 c = c .before .before .search .kept .1 .1 .1 .0
 
 returns-2 : tie.Need-returns-2
 returns-2 c =
-    let s = c .before .before .before .before .before .before .before .before .before .before .before .before .before .before .before .before .before .before .before in
-    searched _ _ _ _ _ _ (s .pre) _ _ 512 (s .pre .tables .most) (omega arith)
-    (sym (c .before .before .before .before .before .before .before .before .before .before .before .before .any-false .ensures) ∙ c .before .before .before .before .before .before .before .before .before .before .before .if1 .left)
+    let i = c .before .before .before .before .before .before .before .before .before .before .before in
+    let g = i .before .before .before .before .before .before .before .before .pre in
+    searched _ _ _ _ _ _ g _ _ mostClauses (g .tables .most) (omega arith) (sym (i .before .any-false .ensures) ∙ i .if1 .left)
     _ _ _ _ tt (c .before .before .before .before .before .before .before .start .ensures) (c .before .before .search .ensures)
 
 pub test-rows-spec : {M : Type 1} → statement M

@@ -4,6 +4,9 @@ use borrow.Author.Needs.{needs}
 use Rattle.leading.proofs.answer.Statement.{statement}
 use Rattle.leading.proofs.answer.Tie as tie
 
+cast-list : tie.Need-cast-list
+cast-list c = search needs
+
 slice-aggregate-list : tie.Need-slice-aggregate-list
 slice-aggregate-list c = search needs
 
@@ -22,20 +25,8 @@ list-requires c κs = search needs
 enum-known-r : tie.Need-enum-known-r
 enum-known-r c = search needs
 
-slice-aggregate-print-text : tie.Need-slice-aggregate-print-text
-slice-aggregate-print-text c = search needs
-
-print-text-requires : tie.Need-print-text-requires
-print-text-requires c κs = search needs
-
-number-requires : tie.Need-number-requires
-number-requires c κs = search needs
-
-cast-print-number : tie.Need-cast-print-number
-cast-print-number c = search needs
-
-print-number-requires : tie.Need-print-number-requires
-print-number-requires c κs = search needs
+print-refusal-requires : tie.Need-print-refusal-requires
+print-refusal-requires c κs = search needs
 
 enum-known-e : tie.Need-enum-known-e
 enum-known-e c = search needs
@@ -67,17 +58,14 @@ pub answer-spec : {M : Type 1} → statement M
 answer-spec =
     tie.close
     (tie.spec
+    cast-list
     slice-aggregate-list
     slice-aggregate-list-2
     slice-aggregate-list-3
     slice-aggregate-list-4
     list-requires
     enum-known-r
-    slice-aggregate-print-text
-    print-text-requires
-    number-requires
-    cast-print-number
-    print-number-requires
+    print-refusal-requires
     enum-known-e
     slice-aggregate-print-states
     slice-aggregate-print-states-2

@@ -49,16 +49,16 @@ loop-less c = omega arith
 
 loop-again : tie.Need-loop-again Inv-loop μ-loop
 loop-again c =
-    let l = c .before .before .before .before .before .before .before .before .before .before .before .loop in
-    let s = c .before .before .before .before .before .before .before .before .before .before .before .before .before in
-    let m = c .before .before .before .before .before .before .before .before .lesser-child in
-    let e = c .before .before .before .before .before .before .entry-at in
-    let t = c .before .before .before .before .before .comes-before in
+    let t = c .before .before .before .before .before in
+    let e = t .before .entry-at in
+    let m = t .before .before .before .lesser-child in
+    let l = t .before .before .before .before .before .before in
+    let s = l .before .before in
     let v : Item = (s .args .a, s .args .b) in
-    let due = due-by (e .ensures) refl (due-before (e .result .a, e .result .b) v (sym (t .ensures) ∙ not-false (t .result) (c .before .before .before .before .if1 .left))) in (
-      c .before .before .put .kept .0 ∙ l .inv .0,
+    let due = due-by (e .ensures) refl (due-before (e .result .a, e .result .b) v (sym (t .comes-before .ensures) ∙ not-false (t .comes-before .result) (c .before .before .before .before .if1 .left))) in (
+      c .before .before .put .kept .0 ∙ l .loop .inv .0,
       m .ensures .within,
-      λ h. rw (c .before .before .put .ensures, ← e .ensures) (sink-step (l .inv .2 h) (m .ensures) due),
+      λ h. rw (c .before .before .put .ensures, ← e .ensures) (sink-step (l .loop .inv .2 h) (m .ensures) due),
     )
 
 put-requires-2 : tie.Need-put-requires-2 Inv-loop μ-loop

@@ -2,11 +2,12 @@
 use Prim.Native.Nat.{_≤_, _-_}
 use native.Mathlib.Omega.{arith}
 use lib.ListN.{length}
+use Rattle.readings.specs.Lengths.{literalBytes}
 use Rattle.replay_sheets.proofs.literal_bytes.Statement.{statement}
 use Rattle.replay_sheets.proofs.literal_bytes.Tie as tie
 
 abbrev Inv-loop : tie.InvT-loop
-Inv-loop counts n₀ i₀ n i = (i ≤ length counts) × (n ≤ 23040)
+Inv-loop counts n₀ i₀ n i = (i ≤ length counts) × (n ≤ literalBytes)
 
 abbrev μ-loop : tie.MeasureT-loop
 μ-loop counts n₀ i₀ n i = length counts - i

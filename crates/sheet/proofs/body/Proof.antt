@@ -2,11 +2,56 @@
 use borrow.Author.Needs.{needs}
 use native.Mathlib.Omega.{arith}
 use mathlib.Core.Path.{sym}
+use mathlib.Core.List.{List}
+use Prim.Native.Nat.{ℕ}
 use lib.Seq.{length-take-le}
-use Rattle.sheet.proofs.Laws.{was-step, no-step, onward, variables-next, variables-refused}
-use Rattle.sheet.proofs.Whole.{no-clauses, no-end, whole-read}
+use Rattle.model.specs.Sheet.{edition1, readBody}
+use Rattle.readings.specs.Lengths.{headBits}
+use Rattle.readings.proofs.Laws.{was-step, no-step, onward}
+use Rattle.sheet_variables.proofs.Laws.{variables-next, variables-refused}
+use Rattle.sheet.proofs.Whole.{VariablesRead, ClausesRead, no-clauses, no-end, whole-read}
 use Rattle.sheet.proofs.body.Statement.{statement}
 use Rattle.sheet.proofs.body.Tie as tie
+use Rattle.sheet.proofs.body.Reads as reads
+use Rattle.sheet.proofs.body.Lts as lts
+use Rattle.sheet.proofs.ending.Reads as ending-reads
+use Rattle.sheet_variables.proofs.variables.Reads as variables-reads
+use Rattle.sheet_clauses.proofs.clauses.Reads as clauses-reads
+
+-- the places where the variables, then the clauses have been read, and what their tables hold there
+abbrev callees : lts.Claims
+callees = (variables-reads.Asked, variables-reads.Learnt, clauses-reads.Asked, clauses-reads.Learnt, ending-reads.Asked, ending-reads.Learnt)
+
+abbrev Variables : Type 0
+Variables = lts.After-after callees reads.Pre reads.Post
+
+abbrev Clauses : Type 0
+Clauses = lts.After-after2 callees reads.Pre reads.Post
+
+abbrev start : lts.After-variables callees reads.Pre reads.Post → lts.Start callees reads.Pre reads.Post
+start k = k .before .before .before .before .before .before .before .before
+
+abbrev call : Variables → lts.After-variables callees reads.Pre reads.Post
+call k = k .before .before .before .before .before .before
+
+abbrev sheet : Variables → List ℕ
+sheet k = start (call k) .args .sheet .now
+
+variables-read : (k : Variables)
+    → VariablesRead (sheet k) (call k .variables .last .1 .1 .1 .0) (call k .variables .last .1 .1 .1 .1 .0) (start (call k) .args .d) (start (call k) .args .s) (start (call k) .args .c) (k .after .given .0 .0)
+    (readBody edition1 (sheet k) (start (call k) .args .d) (start (call k) .args .s) (start (call k) .args .c) headBits)
+variables-read k =
+    let known = onward _ (k .after .given .1) (call k .variables .ensures .1) in
+    record { rest = variables-next _ _ _ _ (k .after .given .1) (call k .variables .ensures .0 (start (call k) .args .c)); lengths = known .1; end = known .0 }
+
+abbrev variables : Clauses → Variables
+variables k = k .before .before .before .before .before .before .before .before .before .before .before
+
+clauses-read : (k : Clauses) → ClausesRead (variables-read (variables k)) (k .before .before .before .before .before .before .clauses .last .1 .1 .1 .1 .0) (k .before .before .before .before .before .before .clauses .last .1 .1 .1 .1 .1 .0) (k .after2 .given .0 .0)
+clauses-read k =
+    let called = k .before .before .before .before .before .before .clauses in
+    let known = onward _ (k .after2 .given .1) (called .ensures .1) in
+    record { are = was-step _ (k .after2 .given .1) (called .ensures .0); room = known .1; end = known .0 }
 
 variables-requires : tie.Need-variables-requires
 variables-requires c κs = search needs
@@ -24,7 +69,7 @@ same-length-2 : tie.Need-same-length-2
 same-length-2 c = search needs
 
 returns : tie.Need-returns
-returns c = (variables-refused _ _ _ _ (c .before .n .given .1) (c .before .before .before .before .before .before .before .variables .ensures .0 (c .before .before .before .before .before .before .before .before .before .before .before .before .before .before .before .args .c)), tt)
+returns c = (variables-refused _ _ _ _ (c .before .n .given .1) (c .before .before .before .before .before .before .before .variables .ensures .0 (start (c .before .before .before .before .before .before .before) .args .c)), tt)
 
 add-all : tie.Need-add-all
 add-all c = search needs
@@ -36,7 +81,7 @@ slice-aggregate-clauses : tie.Need-slice-aggregate-clauses
 slice-aggregate-clauses c = sym (length-take-le _ _ (omega (arith, c .before .before .before .before .before .before .before .before .variables .kept .1 .1 .1 .0)))
 
 clauses-requires : tie.Need-clauses-requires
-clauses-requires c κs = (omega (arith, onward _ (c .before .before .before .before .after .given .1) (c .before .before .before .before .before .before .before .before .before .before .variables .ensures .1) .0), omega arith, omega arith, omega arith)
+clauses-requires c κs = (omega (arith, variables-read (c .before .before .before .before) .end), omega arith, omega arith, omega arith)
 
 enum-known-n-2 : tie.Need-enum-known-n-2
 enum-known-n-2 c = search needs
@@ -45,7 +90,7 @@ enum-known-after-2 : tie.Need-enum-known-after-2
 enum-known-after-2 c = search needs
 
 ending-requires : tie.Need-ending-requires
-ending-requires c κs = omega (arith, onward _ (c .before .after2 .given .1) (c .before .before .before .before .before .before .before .clauses .ensures .1) .0, onward _ (c .before .before .before .before .before .before .before .before .before .before .before .before .after .given .1) (c .before .before .before .before .before .before .before .before .before .before .before .before .before .before .before .before .before .before .variables .ensures .1) .0)
+ending-requires c κs = omega (arith, clauses-read (c .before) .end, variables-read (variables (c .before)) .end)
 
 enum-known-n-3 : tie.Need-enum-known-n-3
 enum-known-n-3 c = search needs
@@ -66,14 +111,7 @@ same-length-6 : tie.Need-same-length-6
 same-length-6 c = search needs
 
 returns-2 : tie.Need-returns-2
-returns-2 c =
-    let start = c .before .before .before .before .before .before .before .before .before .before .before .before .before .before .before .before .before .before .before .before .before .before .before .before .before .before in
-    let variables = c .before .before .before .before .before .before .before .before .before .before .before .before .before .before .before .before .before .before .variables in
-    let sizes = variables .last .1 .1 .1 .0 in
-    let costs = variables .last .1 .1 .1 .1 .0 in
-    let so-far = variables-next _ _ _ _ (c .before .before .before .before .before .before .before .before .before .before .before .before .after .given .1) (variables .ensures .0 (start .args .c)) in
-    let known = onward _ (c .before .before .before .before .before .before .before .before .before .before .before .before .after .given .1) (variables .ensures .1) in
-    (no-clauses (start .args .sheet .now) sizes costs (start .args .d) (start .args .s) (start .args .c) _ so-far (known .1) (no-step _ (c .before .n2 .given .1) (c .before .before .before .before .before .before .before .clauses .ensures .0)), tt)
+returns-2 c = (no-clauses (variables-read (c .before .before .before .before .before .before .before .before .before .before .before .before)) (no-step _ (c .before .n2 .given .1) (c .before .before .before .before .before .before .before .clauses .ensures .0)), tt)
 
 same-length-7 : tie.Need-same-length-7
 same-length-7 c = search needs
@@ -88,19 +126,7 @@ same-length-10 : tie.Need-same-length-10
 same-length-10 c = search needs
 
 returns-3 : tie.Need-returns-3
-returns-3 c =
-    let start = c .before .before .before .before .before .before .before .before .before .before .before .before .before .before .before .before .before .before .before .before .before .before .before .before .before .before .before .before .before .before in
-    let variables = c .before .before .before .before .before .before .before .before .before .before .before .before .before .before .before .before .before .before .before .before .before .before .variables in
-    let sizes = variables .last .1 .1 .1 .0 in
-    let costs = variables .last .1 .1 .1 .1 .0 in
-    let so-far = variables-next _ _ _ _ (c .before .before .before .before .before .before .before .before .before .before .before .before .before .before .before .before .after .given .1) (variables .ensures .0 (start .args .c)) in
-    let known = onward _ (c .before .before .before .before .before .before .before .before .before .before .before .before .before .before .before .before .after .given .1) (variables .ensures .1) in
-    let clauses = c .before .before .before .before .before .before .before .before .before .before .before .clauses in
-    let read = was-step _ (c .before .before .before .before .before .after2 .given .1) (clauses .ensures .0) in (
-      no-end (start .args .sheet .now) sizes costs (start .args .d) (start .args .s) (start .args .c) _ so-far (known .1) (clauses .last .1 .1 .1 .1 .0) (clauses .last .1 .1 .1 .1 .1 .0) _ read
-          (no-step _ (c .before .n3 .given .1) (c .before .before .before .ending .ensures _)),
-      tt,
-    )
+returns-3 c = (no-end (clauses-read (c .before .before .before .before .before)) (no-step _ (c .before .n3 .given .1) (c .before .before .before .ending .ensures _)), tt)
 
 same-length-11 : tie.Need-same-length-11
 same-length-11 c = search needs
@@ -116,18 +142,10 @@ same-length-14 c = search needs
 
 returns-4 : tie.Need-returns-4
 returns-4 c =
-    let start = c .before .before .before .before .before .before .before .before .before .before .before .before .before .before .before .before .before .before .before .before .before .before .before .before .before .before .before .before .before in
-    let variables = c .before .before .before .before .before .before .before .before .before .before .before .before .before .before .before .before .before .before .before .before .before .variables in
-    let sizes = variables .last .1 .1 .1 .0 in
-    let costs = variables .last .1 .1 .1 .1 .0 in
-    let so-far = variables-next _ _ _ _ (c .before .before .before .before .before .before .before .before .before .before .before .before .before .before .before .after .given .1) (variables .ensures .0 (start .args .c)) in
-    let known = onward _ (c .before .before .before .before .before .before .before .before .before .before .before .before .before .before .before .after .given .1) (variables .ensures .1) in
-    let clauses = c .before .before .before .before .before .before .before .before .before .before .clauses in
-    let read = was-step _ (c .before .before .before .before .after2 .given .1) (clauses .ensures .0) in
-    let ended = onward _ (c .before .before .before .before .after2 .given .1) (clauses .ensures .1) in (
-      whole-read (start .args .sheet .now) sizes costs (start .args .d) (start .args .s) (start .args .c) _ so-far (known .1) (clauses .last .1 .1 .1 .1 .0) (clauses .last .1 .1 .1 .1 .1 .0) _ read
-          (was-step _ (c .enum-told .given .1) (c .before .before .ending .ensures _)),
-      record { some = omega arith; decisions = omega arith; states = omega arith; clauses = omega arith; lengths = known .1; room = ended .1 },
+    let k = c .before .before .before .before in
+    let pre = start (call (variables k)) .pre in (
+      whole-read (clauses-read k) (was-step _ (c .enum-told .given .1) (c .before .before .ending .ensures _)),
+      record { some = pre .0; decisions = pre .1; states = pre .2; clauses = pre .3; lengths = variables-read (variables k) .lengths; room = clauses-read k .room },
     )
 
 pub body-spec : {M : Type 1} → statement M

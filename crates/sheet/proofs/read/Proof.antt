@@ -36,7 +36,10 @@ same-length-4 : tie.Need-same-length-4
 same-length-4 c = search needs
 
 returns-2 : tie.Need-returns-2
-returns-2 c = (c .before .before .before .before .before .before .before .before .body .ensures .0 ∙ head-counts _ (c .before .before .before .before .before .before .before .before .before .before .before .before .before .before .d .given .1) (c .before .before .before .before .before .before .before .before .before .before .before .before .before .before .before .before .head .ensures .0), c .before .before .before .before .before .before .before .before .body .ensures .1)
+returns-2 c =
+    let called = c .before .before .before .before .before .before .before .before in
+    let counted = called .before .before .before .before .before .before in
+    (called .body .ensures .0 ∙ head-counts _ (counted .d .given .1) (counted .before .before .head .ensures .0), called .body .ensures .1)
 
 pub read-spec : {M : Type 1} → statement M
 read-spec =

@@ -5,6 +5,7 @@ use lib.ListN.{length, drop}
 use Rattle.model.specs.Lists.{All}
 use Rattle.theory.specs.Tables.{literals}
 use Rattle.theory.specs.Search.{mentions}
+use Rattle.clauses.specs.Numbers.{variables}
 use Rattle.clauses.specs.Sets.{clauseRows}
 use Rattle.clauses.proofs.Marks.{Marking, marking-first, marking-step, marking-end}
 use Rattle.clauses.proofs.Parts.{below-step, rows-step, rows-none, mentions-step, mentions-none}
@@ -18,7 +19,7 @@ Inv-loop sat₀ uses₀ part c i₀ sat uses i =
     (i ≤ length part)
     × (length sat ≡ length sat₀)
     × (length uses ≡ length uses₀)
-    × All (λ l. l .variable < 48) (literals (drop i part))
+    × All (λ l. l .variable < variables) (literals (drop i part))
     × Marking (clauseRows (literals (drop i part))) (clauseRows (literals part)) sat₀ c sat
     × Marking (λ v. mentions v (literals (drop i part))) (λ v. mentions v (literals part)) uses₀ c uses
 
@@ -69,10 +70,11 @@ loop-less c = omega arith
 
 loop-again : tie.Need-loop-again Inv-loop μ-loop
 loop-again c =
-    let h = c .before .before .before .before .before .before .before .before .before .before .before .before .before .loop in
-    let lt = c .before .before .before .before .before .before .before .before .before .before .before .before .loop-test .taken in
-    let x = c .before .before .before .before .before .before .before .before .before .before .wide .ensures in
-    let m = c .before .before .before .before .before .before .mark in
+    let k = c .before .before .before .before .before .before in
+    let h = k .before .before .before .before .before .before .before .loop in
+    let lt = k .before .before .before .before .before .before .loop-test .taken in
+    let x = k .before .before .before .before .wide .ensures in
+    let m = k .mark in
     let n = c .before .before .add in (
       omega arith,
       m .kept .0 ∙ h .inv .1,

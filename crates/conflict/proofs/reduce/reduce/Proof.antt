@@ -4,6 +4,7 @@ use Prim.Native.Nat.{_-_, _≤_}
 use native.Mathlib.Omega.{arith}
 use lib.ListN.{length}
 use borrow.Author.Needs.{needs}
+use Rattle.plan.specs.Plans.{planWords}
 use Rattle.conflict.specs.Given.{ForWords}
 use Rattle.conflict.proofs.Given.{ready-again}
 use Rattle.conflict.proofs.Turns.{members, Going, going-first, going-next, going-stop, going-end}
@@ -13,7 +14,7 @@ use Rattle.conflict.proofs.reduce.reduce.Tie as tie
 abbrev Inv-loop : tie.InvT-loop
 Inv-loop d sizes counts lits sat uses plan₀ mask values used limit m₀ x₀ u₀ v₀ plan m x u v =
     (v ≤ d)
-    × (length plan ≡ 438)
+    × (length plan ≡ planWords)
     × ForWords d sizes counts lits mask values (λ p a. Going p limit d a used m x u v)
 
 abbrev μ-loop : tie.MeasureT-loop

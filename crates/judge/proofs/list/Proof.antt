@@ -1,0 +1,40 @@
+-- `list` meets its contract: two places are written, and two counts are one higher. Assumes nothing.
+use mathlib.Core.Path.{refl}
+use borrow.Author.Needs.{needs}
+use Rattle.judge.proofs.list.Statement.{statement}
+use Rattle.judge.proofs.list.Tie as tie
+
+cast-at : tie.Need-cast-at
+cast-at c = search needs
+
+mul-codes : tie.Need-mul-codes
+mul-codes c = search needs
+
+slice-write-codes : tie.Need-slice-write-codes
+slice-write-codes c = search needs
+
+mul-costs : tie.Need-mul-costs
+mul-costs c = search needs
+
+slice-write-costs : tie.Need-slice-write-costs
+slice-write-costs c = search needs
+
+add-t10 : tie.Need-add-t10
+add-t10 c = search needs
+
+counted-requires : tie.Need-counted-requires
+counted-requires c κs = search needs
+
+same-length : tie.Need-same-length
+same-length c = search needs
+
+same-length-2 : tie.Need-same-length-2
+same-length-2 c = search needs
+
+returns : tie.Need-returns
+returns c = record { codes-are = refl; costs-are = refl; progress-is = rw (c .counted .ensures) refl }
+
+pub list-spec : {M : Type 1} → statement M
+list-spec =
+    tie.close
+    (tie.spec cast-at mul-codes slice-write-codes mul-costs slice-write-costs add-t10 counted-requires same-length same-length-2 returns)

@@ -1,0 +1,70 @@
+-- `listing::call::from_root` meets its contract. Assumes nothing.
+use mathlib.Core.List.{[]}
+use native.Mathlib.Omega.{arith}
+use borrow.Author.Needs.{needs}
+use Rattle.model.specs.Sheet.{decisionSizes}
+use Rattle.model.specs.Order.{orderOf}
+use Rattle.model.specs.Listing.{unassigned, enoughSteps}
+use Rattle.theory.proofs.Tables.{tabled-few}
+use Rattle.queue.proofs.Callers.{holds-nothing}
+use Rattle.listing.proofs.Starting.{start-steps, start-enough}
+use Rattle.listing.proofs.from_root.Statement.{statement}
+use Rattle.listing.proofs.from_root.Tie as tie
+
+root-requires : tie.Need-root-requires
+root-requires c κs = let b = c .before .before .before .before .before .before .before .before .before .pre .0 .tables .tabled in (tabled-few b, b .cost-room)
+
+entry-of-requires : tie.Need-entry-of-requires
+entry-of-requires c κs = search needs
+
+push-requires : tie.Need-push-requires
+push-requires c κs = omega (arith, c .before .before .before .before .before .before .before .before .before .before .before .before .pre .0 .room .queue-room)
+
+run-requires : tie.Need-run-requires
+run-requires c κs =
+    let pushed = c .before .before .before .before .before .before .before in
+    let entered = pushed .before .before in
+    let rooted = entered .before in
+    let start = rooted .before .before .before .before .before .before .before .before .before .before in
+    let t = start .pre .0 in
+    let o = orderOf (t .plant) in
+    let node = rooted .root .ensures (t .plant) _ _ _ (t .tables .tabled) (t .tables .preferred-is) in
+    let entry = entered .entry-of .ensures o (unassigned (decisionSizes (t .plant))) (node .mask-is) (node .code-is) (node .cost-is) in
+    start-steps t (start .pre .2) _ (pushed .push .kept .0) (pushed .push .ensures o [] (unassigned (decisionSizes (t .plant))) (holds-nothing o _) entry)
+
+same-length : tie.Need-same-length
+same-length c = search needs
+
+same-length-2 : tie.Need-same-length-2
+same-length-2 c = search needs
+
+same-length-3 : tie.Need-same-length-3
+same-length-3 c = search needs
+
+same-length-4 : tie.Need-same-length-4
+same-length-4 c = search needs
+
+returns : tie.Need-returns
+returns c t survivors s =
+    let ran = c .before .before .before .before .before .before .before .before in
+    let pushed = ran .before .before .before .before .before .before .before .before in
+    let entered = pushed .before .before in
+    let o = orderOf (t .plant) in
+    let node = entered .before .root .ensures (t .plant) _ _ _ (t .tables .tabled) (t .tables .preferred-is) in
+    let entry = entered .entry-of .ensures o (unassigned (decisionSizes (t .plant))) (node .mask-is) (node .code-is) (node .cost-is) in
+    let steps = start-steps t s _ (pushed .push .kept .0) (pushed .push .ensures o [] (unassigned (decisionSizes (t .plant))) (holds-nothing o _) entry) in
+    rw (← pushed .push .kept .0) (ran .run .ensures steps (enoughSteps (decisionSizes (t .plant))) (start-enough (decisionSizes (t .plant)) survivors _))
+
+pub from-root-spec : {M : Type 1} → statement M
+from-root-spec =
+    tie.close
+    (tie.spec
+    root-requires
+    entry-of-requires
+    push-requires
+    run-requires
+    same-length
+    same-length-2
+    same-length-3
+    same-length-4
+    returns)

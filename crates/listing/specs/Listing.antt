@@ -1,0 +1,70 @@
+-- What the listing over decoded tables answers and leaves, as the model's. Assumes nothing: these are definitions.
+use mathlib.Core.Path.{_≡_}
+use mathlib.Core.List.{List}
+use Prim.Native.Nat.{ℕ, _*_, _≤_}
+use lib.ListN.{length, replicate}
+use Rattle.model.specs.Lists.{All, filled}
+use Rattle.model.specs.Sheet.{Plant}
+use Rattle.model.specs.Assignment.{Assignment}
+use Rattle.model.specs.Conflict.{Conflict}
+use Rattle.model.specs.Order.{orderOf}
+use Rattle.model.specs.Calls.{refused, answered, Buffers, Counts, ran, Answer, Called, entryWords, runOf, calledOf}
+use Rattle.store.specs.Store.{Keeps}
+use Rattle.refusal.specs.Refusal.{refusalOf}
+use Rattle.steps.specs.declared.Finished.{Finished}
+use Rattle.judge.specs.Standing.{Question, endingOf}
+use Rattle.expand.specs.Expands.{Tables}
+use Rattle.listing.specs.declared.Answer.{Answer as Answers}
+use Rattle.listing.specs.declared.Counts.{Counts as Tallies}
+
+abbrev pub question : Plant → ℕ → (codes costs : List ℕ) → Question
+question p k codes costs = record { plant = p; wanted = k; codes = codes; costs = costs }
+
+abbrev pub buffers : (codes costs queue store : List ℕ) → Buffers
+buffers codes costs queue store = record { codes = codes; costs = costs; queue = queue; store = store }
+
+-- ---- over decoded tables
+
+-- room for so many states, for a node, and for the entries offered
+pub record Room (k held : ℕ) (b : Buffers) : Type 0 where
+  pub codes-room : k ≤ length (b .codes)
+  pub costs-room : k ≤ length (b .costs)
+  pub queue-room : 2 ≤ length (b .queue)
+  pub store-room : 2 * held ≤ length (b .store)
+
+-- before step 1
+pub record Lists (d : ℕ) (sizes prices counts lits sat uses plan : List ℕ) (preferred k held : ℕ) (b : Buffers) : Type 0 where
+  pub plant : Plant
+  pub tables : Tables plant d sizes prices counts lits sat uses plan preferred
+  pub room : Room k held b
+
+-- the store keeps the survivors of step 1, which are conflicts, and the trials are within the limit
+pub record Survivors (p : Plant) (limit : ℕ) (survivors : List Assignment) (used : ℕ) (store : List ℕ) (stored : ℕ) : Type 0 where
+  pub keeps : Keeps (length (p .costs)) store stored survivors
+  pub conflicts : All (Conflict p) survivors
+  pub within : used ≤ limit
+
+-- ---- the answer
+
+abbrev pub countsOf : Tallies → Counts
+countsOf c = record { listed = c .listed; tested = c .tested; learned = c .learned; unkept = c .unkept; trials = c .trials }
+
+-- what the call answers
+abbrev pub answerOf : Answers → Answer
+answerOf (Answers.Refused r) = refused (refusalOf r)
+answerOf (Answers.Ran e c) = answered (ran (endingOf e) (countsOf c))
+
+-- `finish`: the run's ending and counts are answered, the queue is zero, and so is the store behind its conflicts
+pub record Finishes (f : Finished) (queue store queueAfter storeAfter : List ℕ) (r : Answers) : Type 0 where
+  pub answer-is : answerOf r ≡ answered (ran (endingOf (f .ending)) (countsOf (record { listed = f .progress .listed; tested = f .progress .tested; learned = f .progress .learned; unkept = f .progress .unkept; trials = f .progress .trials })))
+  pub queue-is : queueAfter ≡ replicate (length queue) 0
+  pub store-is : (d : ℕ) (conflicts : List Assignment) → Keeps d store (f .progress .stored) conflicts → storeAfter ≡ filled (entryWords conflicts) (replicate (length store) 0)
+
+-- the answer and every lent word are those of the model's call
+pub record CalledAs (r : Answers) (after : Buffers) (c : Called) : Type 0 where
+  pub answer-is : answerOf r ≡ c .answer
+  pub after-is : after ≡ c .after
+
+-- an accepted call on this plant
+abbrev pub plantCall : Plant → ℕ → Buffers → ℕ → ℕ → Called
+plantCall p k b held limit = calledOf (orderOf p) b (runOf p k b held limit)

@@ -1,0 +1,3 @@
+-- The laws behind the proofs: the refusals, the answer.
+pub mod Refusing
+pub mod Answering

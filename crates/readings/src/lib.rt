@@ -1,0 +1,40 @@
+// What the reader of a plant sheet goes by in all its parts: what reading a part comes to, how many bits a part has, and how
+// long the tables are that hold the largest plant. The definitions in `specs/Lengths` have the same names: `headBits` is
+// HEAD_BITS.
+use limits::CLAUSES;
+use limits::DECISIONS;
+use limits::LITERALS;
+use limits::VALUES;
+use limits::VARIABLES;
+
+// State variables of a plant.
+pub const STATES: usize = VARIABLES - DECISIONS;
+
+// Bits of the edition with the three counts, and of a literal.
+pub const HEAD_BITS: usize = 29;
+
+pub const LITERAL_BITS: usize = 11;
+
+// Entries of the tables: a size for each variable, a cost for each value of each decision variable, a literal count for
+// each clause, and three bytes for each literal, of one clause and of all.
+pub const SIZE_ENTRIES: usize = VARIABLES;
+
+pub const COST_ENTRIES: usize = DECISIONS * VALUES;
+
+pub const COUNT_ENTRIES: usize = CLAUSES;
+
+pub const CLAUSE_BYTES: usize = LITERALS * 3;
+
+pub const LITERAL_BYTES: usize = COUNT_ENTRIES * CLAUSE_BYTES;
+
+// A part that is in a table: the place after it, or a refusal.
+pub enum Step {
+    Next(usize),
+    Refused(u32),
+}
+
+// A part of a table with its length and the place after it, or a refusal.
+pub enum Item {
+    Got(usize, usize),
+    Refused(u32),
+}

@@ -1,0 +1,15 @@
+-- A refusal in the code, as the model's. Assumes nothing: these are definitions.
+use mathlib.Core.Option.{Option, none, some}
+use Prim.Native.Nat.{ℕ}
+use Rattle.model.specs.Calls.{Refusal, byHost, byAuthor}
+use Rattle.refusal.specs.declared.Refusal.{Refusal as Whose}
+
+-- who caused a refusal, and its number
+abbrev pub refusalOf : Whose → Refusal
+refusalOf (Whose.Host n) = byHost n
+refusalOf (Whose.Author n) = byAuthor n
+
+-- the number of a ground, or 0 where none is given
+abbrev pub groundNumber : Option ℕ → ℕ
+groundNumber none = 0
+groundNumber (some n) = n

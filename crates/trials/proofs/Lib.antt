@@ -1,0 +1,4 @@
+pub mod Bytes
+pub mod Endings
+pub mod FirstSets
+pub mod Turns
