@@ -1,24 +1,44 @@
-.PHONY: run prove test bench host scale
-# proves and builds the program `leading`, and runs it on the small plant
+.PHONY: help run prove test archive host scale bench install
+PREFIX = /usr/local
+DESTDIR =
+ARCHIVE = target/lib/libleading.a
+
+help:
+	@echo 'make run       proves and builds the program leading, and runs it on the small plant'
+	@echo 'make prove     proves every crate, and runs each program'
+	@echo 'make test      the whole gate'
+	@echo 'make archive   proves the code and writes $(ARCHIVE) for C programs'
+	@echo 'make host      the archive, the host over it (target/host/leading_host), and their checks'
+	@echo 'make scale     the archive against the outside program at scale, some minutes'
+	@echo 'make bench     figures: ours, a plain and a same-design implementation in C'
+	@echo 'make install   header, archive, leading.pc and manual to PREFIX ($(PREFIX)), under DESTDIR'
+
 run:
 	rt check leading
 	./target/bin/leading < crates/leading/stdin
-# proves every crate, and runs each program
+
 prove:
 	rt check
-# the whole gate
+
 test:
 	bash .ci/run
-# figures: ours against a plain and a same-design implementation in C, once all three were found to answer alike
-bench:
-	rt staticlib conflict
-	rt staticlib listing
-	$(MAKE) -C bench check run LIB="$(CURDIR)/target/staticlib/libconflict.a $(CURDIR)/target/staticlib/liblisting.a"
-# the archive for C programs, the host over it (target/host/leading_host), and their checks
-host:
-	rt staticlib listing
-	bash host/check.sh target/staticlib/liblisting.a
-# the archive against the outside lister at scale, some minutes; the gate has a short run of it
-scale:
-	rt staticlib listing
-	bash outside/scale.sh target/staticlib/liblisting.a
+
+# every extern function of the top crate in one archive
+archive:
+	mkdir -p target/lib
+	rt staticlib export > target/lib/archive.log 2>&1 || { cat target/lib/archive.log; exit 1; }
+	cp target/staticlib/libexport.a $(ARCHIVE)
+
+host: archive
+	bash host/check.sh $(ARCHIVE)
+
+# the gate has a short run of it
+scale: archive
+	bash outside/scale.sh $(ARCHIVE)
+
+# figures, once all three were found to answer alike
+bench: archive
+	$(MAKE) -C bench check run LIB="$(CURDIR)/$(ARCHIVE)"
+
+install: archive
+	bash host/install.sh $(ARCHIVE) "$(PREFIX)" "$(DESTDIR)"

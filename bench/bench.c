@@ -356,7 +356,7 @@ int main(int count, char **words)
            "filled with junk once and are lent again as the last run left them: not cleared\n"
            "before a run, and warm.\n");
 #ifndef OURS_LIST
-    printf("Without ours: make LIB=path/libNAME.a links it.\n");
+    printf("Without ours: make LIB=target/lib/libleading.a links it.\n");
 #endif
     table_of_tests();
     table_of_queues();

@@ -8,7 +8,8 @@
  *   result words get refusal 2.
  * reduce: the reduction called alone, for the checks; the refusal's number, or
  *   0 after two result words: answer (1 none, 2 conflict, 3 spent), trials.
- *   A conflict's two words are written only with answer 2.
+ *   A conflict's two words are written only with answer 2. Fewer than two words
+ *   of either buffer get refusal 2.
  */
 #ifndef BENCH_CALLS_H
 #define BENCH_CALLS_H
@@ -30,7 +31,8 @@ typedef uint32_t test_call(const uint8_t *sheet, size_t sheet_len,
 
 typedef uint32_t reduce_call(const uint8_t *sheet, size_t sheet_len,
                              uint64_t mask, uint64_t values, uint32_t limit,
-                             uint64_t *conflict, uint32_t *result);
+                             uint64_t *conflict, size_t conflict_len,
+                             uint32_t *result, size_t result_len);
 
 /* What document 01 numbers and bounds. */
 enum {
@@ -44,6 +46,8 @@ enum {
     QUEUE_WORDS_MOST = 8192,
     STORE_WORDS_MOST = 8192,
     RESULT_WORDS = 6,
+    ANSWER_WORDS = 2,
+    CONFLICT_WORDS = 2,
     UNASSIGNED = 16
 };
 

@@ -100,40 +100,49 @@ static void check_sheet_case(struct stream *s)
 
 /* ---- tests and reductions ---- */
 
+/* Of each buffer LENT_WORDS are there, and so many of them are lent. */
+enum { LENT_WORDS = 4, WORD_JUNK = 7 };
+
 struct call {
     bool reduces;
     struct bytes sheet;
     uint64_t mask, values;
     uint32_t limit;
+    size_t conflict_len, result_len;
 };
 
-static void reduce_line(reduce_call *reduce, const struct call *c, char *line)
+/* Whether the words from these places on are as they were. */
+static bool untouched(const uint64_t *conflict, int from, const uint32_t *result, int from_result)
 {
-    uint32_t result[2];
-    uint64_t conflict[2];
-    uint32_t refusal = reduce(c->sheet.at, c->sheet.length, c->mask, c->values, c->limit,
-                              conflict, result);
+    bool same = true;
+    for (int i = from; i < LENT_WORDS; i++)
+        same &= conflict[i] == WORD_JUNK;
+    for (int i = from_result; i < LENT_WORDS; i++)
+        same &= result[i] == WORD_JUNK;
+    return same;
+}
+
+static void call_line(const struct implementation *own, const struct call *c, char *line)
+{
+    static const char *const names[2][4] = {{"?", "consistent", "inconsistent", "spent"},
+                                            {"?", "none", "conflict", "spent"}};
+    uint64_t conflict[LENT_WORDS] = {WORD_JUNK, WORD_JUNK, WORD_JUNK, WORD_JUNK};
+    uint32_t result[LENT_WORDS] = {WORD_JUNK, WORD_JUNK, WORD_JUNK, WORD_JUNK};
+    const struct bytes s = c->sheet;
+    uint32_t refusal = c->reduces
+                           ? own->reduce(s.at, s.length, c->mask, c->values, c->limit, conflict,
+                                         c->conflict_len, result, c->result_len)
+                           : own->test(s.at, s.length, c->mask, c->values, c->limit, result,
+                                       c->result_len);
+    bool found = c->reduces && !refusal && result[0] == INCONSISTENT;
     if (refusal)
         snprintf(line, LINE_MOST, "refused %" PRIu32, refusal);
-    else if (result[0] == INCONSISTENT)
+    else if (found)
         snprintf(line, LINE_MOST, "conflict %016" PRIx64 " %016" PRIx64 " %" PRIu32, conflict[0],
                  conflict[1], result[1]);
     else
-        snprintf(line, LINE_MOST, "%s %" PRIu32, result[0] == SPENT ? "spent" : "none",
-                 result[1]);
-}
-
-static void test_line(test_call *test, const struct call *c, char *line)
-{
-    static const char *const names[] = {"?", "consistent", "inconsistent", "spent"};
-    uint32_t result[4] = {7, 7, 7, 7};
-    uint32_t refusal =
-        test(c->sheet.at, c->sheet.length, c->mask, c->values, c->limit, result, 3);
-    if (refusal)
-        snprintf(line, LINE_MOST, "refused %" PRIu32, refusal);
-    else
-        snprintf(line, LINE_MOST, "%s %" PRIu32, names[result[0] & 3], result[1]);
-    if (result[2] != 7 || result[3] != 7 || (refusal && (result[0] != 7 || result[1] != 7)))
+        snprintf(line, LINE_MOST, "%s %" PRIu32, names[c->reduces][result[0] & 3], result[1]);
+    if (!untouched(conflict, found ? CONFLICT_WORDS : 0, result, refusal ? 0 : ANSWER_WORDS))
         strcat(line, " and wrote where it may not");
 }
 
@@ -145,10 +154,7 @@ static void check_call(const char *where, const struct call *c, const char *want
         const struct implementation *own = &implementations[i];
         if (c->reduces ? !own->reduce : !own->test)
             continue;
-        if (c->reduces)
-            reduce_line(own->reduce, c, got);
-        else
-            test_line(own->test, c, got);
+        call_line(own, c, got);
         if (i == 0)
             strcpy(first, got);
         compare(where, own->name, got, wanted ? wanted : first);
@@ -164,6 +170,7 @@ static void check_test_case(struct stream *s)
     c.mask = number(s, 8);
     c.values = number(s, 8);
     c.limit = (uint32_t)number(s, 4);
+    c.conflict_len = c.result_len = LENT_WORDS - 1;
     bool known = wanted_line(s, wanted);
     check_call("tests", &c, known ? wanted : NULL);
 }
@@ -335,20 +342,43 @@ static void check_runs(const char *path, struct bytes sheet)
     check_run(path, sheet, (struct settings){16, 0, trials ? trials - 1 : 0}, 4096, 64, NULL);
 }
 
-static void check_sheet(const char *path)
+/* Tests, and a reduction, with limits that strike and limits that do not. */
+static void check_calls(const char *path, struct bytes sheet)
 {
-    struct bytes sheet = file_bytes(path);
-    check_runs(path, sheet);
-    check_short_result(path, sheet);
-    uint32_t limits[] = {0, 1, 1000, 10000};
+    static const uint32_t limits[] = {0, 1, 1000, 10000};
     for (size_t i = 0; i < sizeof limits / sizeof *limits; i++) {
-        struct call c = {false, sheet, 0, 0, limits[i]};
+        struct call c = {false, sheet, 0, 0, limits[i], CONFLICT_WORDS, ANSWER_WORDS};
         check_call(path, &c, NULL);
         c.mask = UINT64_C(1) << 63;
         check_call(path, &c, NULL);
         c.reduces = true;
         check_call(path, &c, NULL);
     }
+}
+
+/* Fewer than two words of a buffer are refused, before the mask and the sheet. */
+static void check_short_answers(const char *path, struct bytes sheet)
+{
+    for (size_t length = 0; length < 2; length++) {
+        struct call c = {false, sheet, 1, 0, 1000, LENT_WORDS, length};
+        check_call(path, &c, "refused 2");
+        c.reduces = true;
+        check_call(path, &c, "refused 2");
+        c.conflict_len = length;
+        c.result_len = LENT_WORDS;
+        check_call(path, &c, "refused 2");
+        c.sheet.length = 0;
+        check_call(path, &c, "refused 2");
+    }
+}
+
+static void check_sheet(const char *path)
+{
+    struct bytes sheet = file_bytes(path);
+    check_runs(path, sheet);
+    check_short_result(path, sheet);
+    check_calls(path, sheet);
+    check_short_answers(path, sheet);
     free(sheet.at);
 }
 

@@ -1,5 +1,5 @@
 /* The implementations under comparison. Ours is there once its archive is
- * linked: the Makefile then defines OURS_LIST and OURS_TEST. */
+ * linked: the Makefile then defines OURS_LIST, OURS_TEST and OURS_REDUCE. */
 #ifndef BENCH_IMPLEMENTATIONS_H
 #define BENCH_IMPLEMENTATIONS_H
 
@@ -17,6 +17,11 @@ test_call leading_test;
 #else
 #define leading_test NULL
 #endif
+#ifdef OURS_REDUCE
+reduce_call leading_reduce;
+#else
+#define leading_reduce NULL
+#endif
 
 enum { PLAIN, SAME, OURS, IMPLEMENTATIONS };
 
@@ -30,7 +35,7 @@ struct implementation {
 static const struct implementation implementations[IMPLEMENTATIONS] = {
     {"plain", plain_list, plain_test, plain_reduce},
     {"same", same_list, same_test, same_reduce},
-    {"ours", leading_list, leading_test, NULL},
+    {"ours", leading_list, leading_test, leading_reduce},
 };
 
 #endif

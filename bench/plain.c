@@ -324,7 +324,7 @@ uint32_t plain_test(const uint8_t *sheet, size_t sheet_len, uint64_t mask, uint6
                     uint32_t limit, uint32_t *result, size_t result_len)
 {
     struct plant plant;
-    if (result_len < 2)
+    if (result_len < ANSWER_WORDS)
         return 2;
     uint32_t refusal = read_call(sheet, sheet_len, mask, values, &plant);
     if (refusal)
@@ -336,9 +336,12 @@ uint32_t plain_test(const uint8_t *sheet, size_t sheet_len, uint64_t mask, uint6
 }
 
 uint32_t plain_reduce(const uint8_t *sheet, size_t sheet_len, uint64_t mask, uint64_t values,
-                      uint32_t limit, uint64_t *conflict, uint32_t *result)
+                      uint32_t limit, uint64_t *conflict, size_t conflict_len,
+                      uint32_t *result, size_t result_len)
 {
     struct plant plant;
+    if (result_len < ANSWER_WORDS || conflict_len < CONFLICT_WORDS)
+        return 2;
     uint32_t refusal = read_call(sheet, sheet_len, mask, values, &plant);
     if (refusal)
         return refusal;

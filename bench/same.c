@@ -261,7 +261,7 @@ uint32_t same_test(const uint8_t *sheet, size_t sheet_len, uint64_t mask, uint64
                    uint32_t limit, uint32_t *result, size_t result_len)
 {
     struct tables tables;
-    if (result_len < 2)
+    if (result_len < ANSWER_WORDS)
         return 2;
     uint32_t refusal = read_sheet(sheet, sheet_len, &tables);
     if (!refusal)
@@ -281,9 +281,12 @@ uint32_t same_test(const uint8_t *sheet, size_t sheet_len, uint64_t mask, uint64
 }
 
 uint32_t same_reduce(const uint8_t *sheet, size_t sheet_len, uint64_t mask, uint64_t values,
-                     uint32_t limit, uint64_t *conflict, uint32_t *result)
+                     uint32_t limit, uint64_t *conflict, size_t conflict_len,
+                     uint32_t *result, size_t result_len)
 {
     struct tables tables;
+    if (result_len < ANSWER_WORDS || conflict_len < CONFLICT_WORDS)
+        return 2;
     uint32_t refusal = read_sheet(sheet, sheet_len, &tables);
     if (!refusal)
         refusal = ill_formed(&tables, mask, values);

@@ -7,7 +7,7 @@
     python3 -B compare/compare.py memory         the most memory of a process
     python3 -B compare/compare.py beyond         peers on plants beyond ours
 
-Needs target/staticlib/liblisting.a, target/host/leading_host (`make host`) and gcc.
+Needs target/lib/libleading.a, target/host/leading_host (`make host`) and gcc.
 A solver that is not installed is left out. No part of the gate.
 """
 import os
@@ -264,7 +264,7 @@ def versions(shop):
             out = subprocess.run([program, "--version"], capture_output=True, text=True).stdout
             print(next(line for line in out.splitlines() if "version" in line))
             print(f"{program}: {os.path.getsize(os.path.realpath(path)):,} bytes")
-    print(f"liblisting.a: {ARCHIVE.stat().st_size:,} bytes")
+    print(f"{ARCHIVE.name}: {ARCHIVE.stat().st_size:,} bytes")
     subprocess.run(["size", str(ARCHIVE)])
 
 

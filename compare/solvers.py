@@ -19,7 +19,7 @@ import plant as sheets  # noqa: E402
 ALL = 0  # as k: every state
 ALL_MOST = 4096
 HOST = ROOT / "target/host/leading_host"
-ARCHIVE = ROOT / "target/staticlib/liblisting.a"
+ARCHIVE = ROOT / "target/lib/libleading.a"
 
 # A list is [(cost, code)], in the order in which the solver gave it. `seconds` is
 # the processor time of all processes that it took; `runs` is their number.

@@ -1,7 +1,8 @@
 #!/usr/bin/env bash
-# bash host/check.sh ARCHIVE: the C header, the host and the examples over the
-# archive that C programs link. Any difference fails it. What a machine lacks is
-# said to be skipped, save a C compiler. Programs are left in target/host.
+# bash host/check.sh ARCHIVE: the C header, the host, the examples, the manual and
+# what is installed, over the archive that C programs link. Any difference fails
+# it. What a machine lacks is said to be skipped, save a C compiler. Programs are
+# left in target/host.
 set -euo pipefail
 cd "$(dirname "$0")/.."
 archive=$1
@@ -13,21 +14,34 @@ mkdir -p "$out"
 
 say() { echo "host: $*"; }
 
+fail() { say "$*"; exit 1; }
+
 have() { command -v "$1" > /dev/null || { say "skipped: no $1"; return 1; }; }
 
-# the text between @NAME and @endNAME in the header's comment
-from_header() {
-    sed -n "/^ \* @$1\$/,/^ \* @end$1\$/p" include/leading.h | sed '1d;$d;s/^ \* \{0,1\}//'
+# $1 file, $2 and $3 the lines before and behind, $4 which: a block's text
+block() {
+    awk -v before="$2" -v behind="$3" -v which="$4" '
+        $0 == behind { inside = 0 }
+        inside
+        $0 == before { inside = ++seen == which }' "$1"
 }
 
-# $1 compiler, $2 language, $3 standard: the header alone, then its example, run
+# $1 code or output, $2 its number: from the header's comments
+from_header() {
+    block include/leading.h " * @$1" " * @end$1" "$2" | sed 's/^ \* \{0,1\}//'
+}
+
+# $1 compiler, $2 language, $3 standard: the header alone, then its examples, run
 header() {
-    local program=$out/example-$1
-    "$1" -x "$2" -std="$3" "${strict[@]}" -fsyntax-only include/leading.h
-    "$1" -x "$2" -std="$3" "${strict[@]}" -c "$out/example.c" -o "$program.o"
-    "$1" "$program.o" "$archive" -o "$program"
-    "$program" | cmp - "$out/example.expected"
-    say "header and its example: $1 as $3"
+    local program number
+    "$1" -x "$2" -std="$3" "${strict[@]}" -fsyntax-only "$out/alone.c"
+    for ((number = 1; number <= in_header; number++)); do
+        program=$out/example$number-$1
+        "$1" -x "$2" -std="$3" "${strict[@]}" -c "$out/example$number.c" -o "$program.o"
+        "$1" "$program.o" "$archive" -o "$program"
+        "$program" | cmp - "$out/example$number.expected"
+    done
+    say "header and its $in_header examples: $1 as $3"
 }
 
 # $1 compiler, $2 folder, further words for the compiler: the programs
@@ -69,8 +83,12 @@ exercise() {
 }
 
 check_headers() {
-    from_header code > "$out/example.c"
-    from_header output > "$out/example.expected"
+    local number
+    printf '#include "leading.h"\n#include "leading.h"\n' > "$out/alone.c"
+    for ((number = 1; number <= in_header; number++)); do
+        from_header code $number > "$out/example$number.c"
+        from_header output $number > "$out/example$number.expected"
+    done
     for compiler in gcc clang; do have $compiler && header $compiler c c11; done
     for compiler in g++ clang++; do have $compiler && header $compiler c++ c++17; done
     true
@@ -107,6 +125,82 @@ check_stack() {
     "$out/stack"
 }
 
+# $1 which block of code or output in the manual, as it is read
+from_manual() {
+    sed -n '/^\.SH EXAMPLES$/,$p' man/leading.3 > "$out/manual.examples"
+    block "$out/manual.examples" .EX .EE "$1" | sed 's/\\e/\\/g'
+}
+
+# the manual's declarations
+synopsis() {
+    sed -n '/^\.SH SYNOPSIS$/,/^\.SH DESCRIPTION$/s/^\.B "\(.*\)"$/\1/p' man/leading.3
+}
+
+# $1 a C compiler: the manual's declarations, names and examples are the header's
+check_manual() {
+    local name number
+    synopsis > "$out/synopsis.c"
+    "$1" -std=c11 "${strict[@]}" -fsyntax-only "$out/synopsis.c"
+    for name in leading_{list,test,reduce,version}; do
+        grep -q "$name(" "$out/synopsis.c" || fail "manual: no declaration of $name"
+    done
+    for name in $(grep -o 'LEADING_[A-Z_]*' man/leading.3 | sort -u); do
+        grep -qw "$name" include/leading.h || fail "manual: the header has no $name"
+    done
+    for ((number = 1; number <= in_header; number++)); do
+        from_manual $((2 * number - 1)) | cmp - "$out/example$number.c"
+        from_manual $((2 * number)) | cmp - "$out/example$number.expected"
+    done
+    say "manual: declarations, names and $in_header examples are the header's"
+}
+
+# $1 a prefix: the pages there format without a word, the links as the page itself
+check_pages() {
+    local name page=$PWD/$out/page
+    have groff || return 0
+    for name in leading leading_{list,test,reduce,version}; do
+        (cd "$1/share/man" && groff -man -ww -Tutf8 "man3/$name.3") > "$page.$name" 2> "$page.said"
+        [ ! -s "$page.said" ] || fail "manual: $(cat "$page.said")"
+        cmp "$page.$name" "$page.leading"
+    done
+    grep -q . "$page.leading" || fail "manual: an empty page"
+    say "manual: formatted by groff, from each name"
+}
+
+# $1 a C compiler: the version that the header has for a program
+header_version() {
+    printf '#include "leading.h"\nLEADING_VERSION\n' | "$1" -E -P -Iinclude - |
+        tail -n 1 | tr -d '"'
+}
+
+# $1 a C compiler, $2 a prefix: the header's examples, found by pkg-config alone
+check_found() {
+    local number flags version
+    have pkg-config || return 0
+    flags=$(PKG_CONFIG_PATH=$2/lib/pkgconfig pkg-config --cflags --libs leading)
+    version=$(PKG_CONFIG_PATH=$2/lib/pkgconfig pkg-config --modversion leading)
+    [ "$version" = "$(header_version "$1")" ] || fail "leading.pc is of another version: $version"
+    for ((number = 1; number <= in_header; number++)); do
+        "$1" -std=c11 "$out/example$number.c" $flags -o "$out/found$number"
+        "$out/found$number" | cmp - "$out/example$number.expected"
+    done
+    say "installed, found by pkg-config: leading $version"
+}
+
+# $1 a C compiler: an install to a scratch prefix, and one that is staged
+check_installed() {
+    local prefix=$PWD/$out/installed staged=$PWD/$out/staged
+    bash host/install.sh "$archive" "$prefix" > /dev/null
+    cmp "$archive" "$prefix/lib/libleading.a"
+    cmp include/leading.h "$prefix/include/leading.h"
+    check_found "$1" "$prefix"
+    check_pages "$prefix"
+    bash host/install.sh "$archive" /usr/local "$staged" > /dev/null
+    diff -r "$prefix/include" "$staged/usr/local/include"
+    grep -qx 'prefix=/usr/local' "$staged/usr/local/lib/pkgconfig/leading.pc"
+    say "installed, to a prefix and staged"
+}
+
 check_texts() {
     local name
     python3 -B examples/test_plant_text.py
@@ -118,9 +212,12 @@ check_texts() {
 }
 
 cc=$(command -v gcc || command -v clang) || { say "no C compiler"; exit 1; }
+in_header=$(grep -c '^ \* @code$' include/leading.h)
 check_texts
 check_headers
+check_manual "$cc"
 check_programs
 check_sanitized
 check_stack "$cc"
+check_installed "$cc"
 cp "$out/$(basename "$cc")/leading_host" "$out/leading_host"

@@ -32,29 +32,6 @@ struct buffers {
     uint32_t *costs;
 };
 
-static const char *const refusals[] = {
-    [LEADING_BAD_K] = "k is not 1 to 4096",
-    [LEADING_BAD_OUTPUT] = "codes, costs or result too short",
-    [LEADING_BAD_QUEUE] = "the queue is not of 1 to 4096 entries",
-    [LEADING_BAD_STORE] = "the store is not of 0 to 4096 entries, or held is above them",
-    [LEADING_SHEET_SHORT] = "the sheet ends inside a field",
-    [LEADING_SHEET_EDITION] = "the sheet's edition is not 1",
-    [LEADING_SHEET_PARTS] = "the sheet has no part, or more than 16",
-    [LEADING_SHEET_HIDDEN] = "the sheet has more than 32 hidden variables",
-    [LEADING_SHEET_CLAUSES] = "the sheet has more than 512 clauses",
-    [LEADING_SHEET_VARIABLE] = "a literal's variable is not there",
-    [LEADING_SHEET_VALUE] = "a literal's value is outside its variable's",
-    [LEADING_SHEET_FILLER] = "a filler bit is not 0",
-    [LEADING_SHEET_LONG] = "bytes behind the end of the sheet",
-};
-
-static const char *const endings[] = {
-    [LEADING_ENOUGH] = "enough",
-    [LEADING_ALL] = "all",
-    [LEADING_FULL] = "full",
-    [LEADING_SPENT] = "spent",
-};
-
 static int fail(const char *what, const char *which)
 {
     fprintf(stderr, "leading_host: %s: %s\n", what, which);
@@ -138,8 +115,9 @@ static void print_run(const struct buffers *b, const uint32_t *result)
         printf("%" PRIu32 " %" PRIu32 " %016" PRIx64 "\n", i + 1, b->costs[i], b->codes[i]);
     printf("%s %" PRIu32 " tested %" PRIu32 " learned %" PRIu32 " unkept %" PRIu32
            " trials %" PRIu32 "\n",
-           endings[result[LEADING_ENDING]], result[LEADING_LISTED], result[LEADING_TESTED],
-           result[LEADING_LEARNED], result[LEADING_UNKEPT], result[LEADING_TRIALS]);
+           leading_ending_text(result[LEADING_ENDING]), result[LEADING_LISTED],
+           result[LEADING_TESTED], result[LEADING_LEARNED], result[LEADING_UNKEPT],
+           result[LEADING_TRIALS]);
 }
 
 static uint32_t list(const struct settings *s, const uint8_t *sheet, size_t length,
@@ -154,7 +132,7 @@ static uint32_t list(const struct settings *s, const uint8_t *sheet, size_t leng
         print_run(b, result);
     } else {
         printf("refused %" PRIu32 "\n", refused);
-        fail("refused", refusals[refused]);
+        fail("refused", leading_refusal_text(refused));
     }
     return refused;
 }

@@ -1,4 +1,4 @@
-/* Measures the stack of a call: a second stack is painted, the deepest search
+/* Measures the stack of each call: a second stack is painted, the deepest search
  * that a sheet allows is run on it, with few clauses and with many, and the lowest
  * byte that changed is found. Prints the bytes; exit status 1 where they are more
  * than LEADING_STACK_BYTES. */
@@ -17,7 +17,9 @@ static _Alignas(16) unsigned char stack[STACK_BYTES];
 static ucontext_t caller, callee;
 static uint8_t sheet[LEADING_SHEET_BYTES_MOST];
 static size_t sheet_len;
+static uint64_t conflict[LEADING_CONFLICT_WORDS];
 static uint32_t result[LEADING_RESULT_WORDS];
+static bool meant; /* whether the last call went as it was meant to */
 
 static void put(size_t *bit, unsigned width, unsigned field)
 {
@@ -55,15 +57,38 @@ static void write_sheet(unsigned clauses)
 
 /* The empty conflict is offered: its test sets all variables. Then a run that
  * learns, resolves, lists and ends. */
-static void call(void)
+static void list(void)
 {
     static uint64_t codes[16], queue[8192], store[128];
     static uint32_t costs[16];
     memset(store, 0, sizeof store);
-    if (leading_list(sheet, sheet_len, codes, 16, costs, 16, queue, 8192, store, 128,
-                     result, LEADING_RESULT_WORDS, 16, 1, 1000000) != LEADING_OK)
-        result[LEADING_ENDING] = 0;
+    meant = leading_list(sheet, sheet_len, codes, 16, costs, 16, queue, 8192, store, 128,
+                         result, LEADING_RESULT_WORDS, 16, 1, 1000000) == LEADING_OK &&
+            result[LEADING_ENDING] == LEADING_ALL && result[LEADING_LISTED] == 1;
 }
+
+/* The empty assignment: its test sets all variables. */
+static void test(void)
+{
+    meant = leading_test(sheet, sheet_len, 0, 0, 1000000, result, LEADING_ANSWER_WORDS) ==
+                LEADING_OK &&
+            result[LEADING_ANSWER] == LEADING_TEST_CONSISTENT;
+}
+
+/* A conflict of one member: without it the test sets all variables. */
+static void reduce(void)
+{
+    meant = leading_reduce(sheet, sheet_len, LEADING_MASK(0), LEADING_CODE(0, 0), 1000000,
+                           conflict, LEADING_CONFLICT_WORDS, result,
+                           LEADING_ANSWER_WORDS) == LEADING_OK &&
+            result[LEADING_ANSWER] == LEADING_REDUCE_CONFLICT &&
+            conflict[LEADING_CONFLICT_MASK] == LEADING_MASK(0);
+}
+
+static const struct call {
+    const char *name;
+    void (*function)(void);
+} calls[] = {{"leading_list", list}, {"leading_test", test}, {"leading_reduce", reduce}};
 
 static size_t used_by(void (*function)(void))
 {
@@ -80,23 +105,26 @@ static size_t used_by(void (*function)(void))
     return sizeof stack - lowest;
 }
 
-/* Whether the run on a sheet with so many clauses for each variable keeps within. */
-static bool keeps_within(unsigned clauses)
+/* Whether the call on a sheet with so many clauses for each variable keeps within. */
+static bool keeps_within(const struct call *call, unsigned clauses)
 {
     write_sheet(clauses);
-    call(); /* so that memset is bound already */
-    size_t used = used_by(call);
-    printf("stack %zu of %d\n", used, LEADING_STACK_BYTES);
-    if (result[LEADING_ENDING] != LEADING_ALL || result[LEADING_LISTED] != 1) {
-        printf("stack: the run is not the one meant\n");
-        return false;
-    }
-    return used <= LEADING_STACK_BYTES;
+    call->function(); /* so that memset is bound already */
+    meant = false;
+    size_t used = used_by(call->function);
+    printf("stack of %s: %zu of %d\n", call->name, used, LEADING_STACK_BYTES);
+    if (!meant)
+        printf("stack of %s: the run is not the one meant\n", call->name);
+    return meant && used <= LEADING_STACK_BYTES;
 }
 
 /* 48 clauses and 480: the test has a search for few clauses and one for many. */
 int main(void)
 {
-    bool few = keeps_within(1), many = keeps_within(10);
-    return few && many ? 0 : 1;
+    bool all = true;
+    for (size_t i = 0; i < sizeof calls / sizeof *calls; i++) {
+        all &= keeps_within(&calls[i], 1);
+        all &= keeps_within(&calls[i], 10);
+    }
+    return all ? 0 : 1;
 }

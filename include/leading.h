@@ -2,14 +2,23 @@
  * leading.h - the leading states of a driveline, in an order that nothing but
  * the plant decides.
  *
- * One function, leading_list(): it reads a plant sheet and lists the cheapest
- * states of the plant's parts that fit all of the sheet's clauses, cheapest
- * first, equal costs by code. Two lists of one sheet never contradict each
- * other: of any two, one begins the other, whatever queue, store or trial limit
- * each was given. That is proved of the code that you link.
+ * leading_list() reads a plant sheet and lists the cheapest states of the plant's
+ * parts that fit all of the sheet's clauses, cheapest first, equal costs by code.
+ * Two lists of one sheet never contradict each other: of any two, one begins the
+ * other, whatever queue, store or trial limit each was given. That is proved of
+ * the code that you link.
  *
- * Link target/staticlib/liblisting.a, which `rt staticlib listing` proves and
- * writes (x86-64). It asks for memset and for nothing else.
+ * leading_test() says whether given states of some parts can be together, and
+ * leading_reduce() which of them are to blame where they cannot.
+ * leading_version() says which archive is linked.
+ *
+ * Link libleading.a. `make archive` proves the code and writes it to target/lib
+ * (x86-64); `make install PREFIX=/usr/local` puts it, this header, leading.pc and
+ * leading(3) in place, and then
+ *
+ *     cc program.c $(pkg-config --cflags --libs leading)
+ *
+ * It asks for memset and for nothing else.
  *
  * - No allocation, no input or output, no locks, no errno. All memory is yours.
  * - No global state: re-entrant, and safe in many threads at once, each call
@@ -24,7 +33,7 @@
  * variables make every clause hold.
  *
  * Example: the small plant. This very text is compiled and run by the gate, as
- * C and as C++.
+ * C and as C++; so is the second example, at leading_reduce().
  *
  * @code
  * #include <inttypes.h>
@@ -48,7 +57,7 @@
  *                                     result, LEADING_RESULT_WORDS,
  *                                     16, 0, 1000000);
  *     if (refused != LEADING_OK) {
- *         printf("refused %" PRIu32 "\n", refused);
+ *         printf("refused: %s\n", leading_refusal_text(refused));
  *         return 1;
  *     }
  *     for (uint32_t i = 0; i < result[LEADING_LISTED]; i++)
@@ -80,11 +89,17 @@ extern "C" {
 
 /* ---- Version ------------------------------------------------------------ */
 
-/* Of this interface. MAJOR rises with a change that breaks callers. */
+/* Of this interface. MAJOR rises with a change that breaks callers, MINOR with
+ * one that adds to it. */
 #define LEADING_VERSION_MAJOR 0
-#define LEADING_VERSION_MINOR 1
+#define LEADING_VERSION_MINOR 2
 #define LEADING_VERSION_PATCH 0
-#define LEADING_VERSION "0.1.0"
+#define LEADING_VERSION "0.2.0"
+
+/* The three in one number, for #if and for leading_version(). */
+#define LEADING_VERSION_NUMBER                                       \
+    (LEADING_VERSION_MAJOR * 65536u + LEADING_VERSION_MINOR * 256u + \
+     LEADING_VERSION_PATCH)
 
 /* The edition of the plant sheet that is read: its first byte. */
 #define LEADING_EDITION 1
@@ -106,8 +121,12 @@ extern "C" {
 #define LEADING_QUEUE_WORDS(entries) ((size_t)2 * (entries))
 #define LEADING_STORE_WORDS(entries) ((size_t)2 * (entries))
 
-/* uint32_t words of the result. */
+/* uint32_t words of the result: of a listing; of a test or reduction. */
 #define LEADING_RESULT_WORDS 6
+#define LEADING_ANSWER_WORDS 2
+
+/* uint64_t words of a conflict. */
+#define LEADING_CONFLICT_WORDS 2
 
 /*
  * Stack that a call may take, in bytes, whatever it is given. Measured: 97,856,
@@ -117,7 +136,8 @@ extern "C" {
  *
  *     make host && target/host/stack
  *
- * The gate runs it, and fails where a call takes more than this.
+ * It measures each call; these figures are leading_list's. The gate runs it, and
+ * fails where a call takes more than this.
  */
 #define LEADING_STACK_BYTES 98304
 
@@ -127,14 +147,20 @@ extern "C" {
  * LEADING_OK, or why the call was refused. Where several reasons are given, the
  * first in the order below, save that within a sheet the order is that of
  * reading. A refused call changes no buffer, the result included.
+ *
+ * leading_list is refused by 1 to 13, leading_test and leading_reduce by 2 and
+ * by 5 to 15.
  */
 enum leading_refusal {
     LEADING_OK = 0,
 
     /* The caller's; looked at before the sheet. */
     LEADING_BAD_K = 1,      /* k is 0 or above LEADING_K_MOST */
-    LEADING_BAD_OUTPUT = 2, /* codes_len or costs_len below k, or result_len
-                               below LEADING_RESULT_WORDS */
+    LEADING_BAD_OUTPUT = 2, /* of a listing: codes_len or costs_len below k, or
+                               result_len below LEADING_RESULT_WORDS; of a test
+                               or reduction: result_len below
+                               LEADING_ANSWER_WORDS; of a reduction also:
+                               conflict_len below LEADING_CONFLICT_WORDS */
     LEADING_BAD_QUEUE = 3,  /* queue_len is odd, 0 or above 8,192 */
     LEADING_BAD_STORE = 4,  /* store_len is odd or above 8,192, or held is more
                                than the entries of the store */
@@ -150,10 +176,15 @@ enum leading_refusal {
     LEADING_SHEET_VALUE = 11,    /* a literal names a value that its variable has
                                     not */
     LEADING_SHEET_FILLER = 12,   /* a bit behind the last clause is not 0 */
-    LEADING_SHEET_LONG = 13      /* bytes behind the filler */
+    LEADING_SHEET_LONG = 13,     /* bytes behind the filler */
+
+    /* The caller's, of a test or reduction; looked at after the sheet. */
+    LEADING_BAD_MASK = 14,  /* a bit of the mask beyond the sheet's parts */
+    LEADING_BAD_VALUES = 15 /* a value that its part has not, or a nibble that
+                               is not 0 where the mask is 0 */
 };
 
-/* The places of the result words. */
+/* The places of a listing's result words. */
 enum leading_result {
     LEADING_ENDING = 0,  /* an enum leading_ending */
     LEADING_LISTED = 1,  /* states listed: words of codes and of costs written */
@@ -172,6 +203,93 @@ enum leading_ending {
                            states are tested */
 };
 
+/* The places of a test's and a reduction's result words. */
+enum leading_answer {
+    LEADING_ANSWER = 0,       /* an enum leading_test_answer, or an enum
+                                 leading_reduce_answer */
+    LEADING_ANSWER_TRIALS = 1 /* trials made; never above limit */
+};
+
+/* What a test found. Not to be mixed up with LEADING_SPENT, a listing's. */
+enum leading_test_answer {
+    LEADING_TEST_CONSISTENT = 1,   /* the states can be together */
+    LEADING_TEST_INCONSISTENT = 2, /* they cannot: they are a conflict */
+    LEADING_TEST_SPENT = 3         /* a trial beyond the limit was wanted */
+};
+
+/* What a reduction found. */
+enum leading_reduce_answer {
+    LEADING_REDUCE_NONE = 1,     /* no conflict: the states can be together */
+    LEADING_REDUCE_CONFLICT = 2, /* a conflict, and its two words are written */
+    LEADING_REDUCE_SPENT = 3     /* a trial beyond the limit was wanted */
+};
+
+/* The places of a conflict's words. */
+enum leading_conflict {
+    LEADING_CONFLICT_MASK = 0,
+    LEADING_CONFLICT_VALUES = 1
+};
+
+/* The refusal in words, for messages; "unknown" where it is none. */
+static inline const char *leading_refusal_text(uint32_t refusal)
+{
+    switch (refusal) {
+    case LEADING_OK: return "not refused";
+    case LEADING_BAD_K: return "k is not 1 to 4096";
+    case LEADING_BAD_OUTPUT: return "codes, costs, conflict or result too short";
+    case LEADING_BAD_QUEUE: return "the queue is not of 1 to 4096 entries";
+    case LEADING_BAD_STORE:
+        return "the store is not of 0 to 4096 entries, or held is above them";
+    case LEADING_SHEET_SHORT: return "the sheet ends inside a field";
+    case LEADING_SHEET_EDITION: return "the sheet's edition is not 1";
+    case LEADING_SHEET_PARTS: return "the sheet has no part, or more than 16";
+    case LEADING_SHEET_HIDDEN: return "the sheet has more than 32 hidden variables";
+    case LEADING_SHEET_CLAUSES: return "the sheet has more than 512 clauses";
+    case LEADING_SHEET_VARIABLE: return "a literal's variable is not there";
+    case LEADING_SHEET_VALUE: return "a literal's value is outside its variable's";
+    case LEADING_SHEET_FILLER: return "a filler bit is not 0";
+    case LEADING_SHEET_LONG: return "bytes behind the end of the sheet";
+    case LEADING_BAD_MASK: return "the mask has a bit beyond the sheet's parts";
+    case LEADING_BAD_VALUES:
+        return "a value is outside its part's, or stands where the mask is 0";
+    default: return "unknown";
+    }
+}
+
+/* How a run ended, in a word; "unknown" where it is no ending. */
+static inline const char *leading_ending_text(uint32_t ending)
+{
+    switch (ending) {
+    case LEADING_ENOUGH: return "enough";
+    case LEADING_ALL: return "all";
+    case LEADING_FULL: return "full";
+    case LEADING_SPENT: return "spent";
+    default: return "unknown";
+    }
+}
+
+/* The answer of a test in a word; "unknown" where it is none. */
+static inline const char *leading_test_text(uint32_t answer)
+{
+    switch (answer) {
+    case LEADING_TEST_CONSISTENT: return "consistent";
+    case LEADING_TEST_INCONSISTENT: return "inconsistent";
+    case LEADING_TEST_SPENT: return "spent";
+    default: return "unknown";
+    }
+}
+
+/* The answer of a reduction in a word; "unknown" where it is none. */
+static inline const char *leading_reduce_text(uint32_t answer)
+{
+    switch (answer) {
+    case LEADING_REDUCE_NONE: return "none";
+    case LEADING_REDUCE_CONFLICT: return "conflict";
+    case LEADING_REDUCE_SPENT: return "spent";
+    default: return "unknown";
+    }
+}
+
 /* ---- The sheet ---------------------------------------------------------- */
 
 /*
@@ -188,16 +306,21 @@ enum leading_ending {
  * examples/plant_text.py writes sheets from a text with names, and back.
  */
 
+/* The number of parts that a sheet names, in its second byte: 1 to 16 where the
+ * sheet is not refused. */
+#define LEADING_PARTS(sheet) ((unsigned)(sheet)[1] >> 3 & 31u)
+
 /* ---- Codes and conflicts ------------------------------------------------ */
 
 /*
  * A code is a state of the plant in one word: part 0 in the top four bits, part
  * 1 in the next four and so on; nibbles of absent parts are 0.
  *
- * A conflict is some parts' states that cannot be together, in two words: the
- * mask, with part 0 in the top bit, 1 where the part has a say; then the values
- * as in a code, 0 where the mask is 0. Mask 0 (no state fits at all) is a
- * conflict too.
+ * Some parts' states are two words: the mask, with part 0 in the top bit, 1 where
+ * the part has a say; then the values as in a code, 0 where the mask is 0.
+ *
+ * A conflict is some parts' states that cannot be together, in these two words.
+ * Mask 0 (no state fits at all) is a conflict too.
  */
 
 /* The state of a part in a code. */
@@ -208,17 +331,25 @@ enum leading_ending {
 /* One part's state as a code; several are joined with |. */
 #define LEADING_CODE(part, value) ((uint64_t)(value) << (60 - 4 * (part)))
 
-/* ---- The call ----------------------------------------------------------- */
+/* ---- The calls ---------------------------------------------------------- */
+
+/*
+ * Of every call: all buffers are the caller's, before, during and after it; the
+ * library keeps no pointer. A count after a pointer is in elements, not bytes.
+ * Pointers are not NULL, also where the count is 0, and are aligned as their type
+ * asks. No two buffers overlap, the sheet among them. While the call lasts nobody
+ * else writes the sheet or touches the other buffers. Apart from refusals 1 to
+ * 4, none of this is checked: as with memcpy, breaking it is undefined.
+ */
+
+/*
+ * The version of the archive that is linked. It is LEADING_VERSION_NUMBER where
+ * this header belongs to the archive.
+ */
+uint32_t leading_version(void);
 
 /*
  * Lists the first k states of the sheet's plant that fit.
- *
- * All buffers are the caller's, before, during and after the call; the library
- * keeps no pointer. A count after a pointer is in elements, not bytes. Pointers
- * are not NULL, also where the count is 0, and are aligned as their type asks.
- * No two buffers overlap, the sheet among them. While the call lasts nobody
- * else writes the sheet or touches the other buffers. Apart from refusals 1 to
- * 4, none of this is checked: as with memcpy, breaking it is undefined.
  *
  * sheet, sheet_len
  *     The plant sheet, any bytes; only read. Anything that is not a whole sheet
@@ -265,6 +396,114 @@ uint32_t leading_list(const uint8_t *sheet, size_t sheet_len,
                       uint64_t *store, size_t store_len,
                       uint32_t *result, size_t result_len,
                       uint32_t k, size_t held, uint32_t limit);
+
+/*
+ * Tests whether given states of some parts can be together: whether some states
+ * of all other parts and some values of the hidden variables make every clause
+ * hold.
+ *
+ * sheet, sheet_len
+ *     The plant sheet, as for leading_list.
+ * mask, values
+ *     The states in two words, as those of a conflict. Any parts, all of them or
+ *     none: with mask 0 the test is whether any state of the plant fits, and with
+ *     all parts whether this one does. A bit beyond the sheet's parts is refused
+ *     with 14, and then a value that its part has not, or a nibble that is not 0
+ *     where the mask is 0, with 15.
+ * limit
+ *     The most trials; 0 is allowed. A trial is one value set, a few nanoseconds.
+ *     Where a clause is false from the start the test answers without any.
+ * result, result_len
+ *     Out: the two words of enum leading_answer, the first an enum
+ *     leading_test_answer. At least LEADING_ANSWER_WORDS words; fewer are refused
+ *     with 2, before the sheet is looked at. Before: anything. After: words behind
+ *     the two unchanged.
+ *
+ * Returns LEADING_OK (0) after a test, with the result written; otherwise the
+ * number of the refusal (2, 5 to 13, 14, 15, in this order), with every buffer as
+ * it was.
+ */
+uint32_t leading_test(const uint8_t *sheet, size_t sheet_len,
+                      uint64_t mask, uint64_t values, uint32_t limit,
+                      uint32_t *result, size_t result_len);
+
+/*
+ * Finds which of given states of some parts are to blame where they cannot be
+ * together: tests them, and then leaves off one part after the other, by number,
+ * for good where the rest cannot be together either. What is left is a conflict
+ * of which no part can be spared: without any one of its members the others can
+ * be together. It may be offered to leading_list in its store.
+ *
+ * sheet, sheet_len, mask, values
+ *     As for leading_test.
+ * limit
+ *     The most trials, of all its tests together; 0 is allowed.
+ * conflict, conflict_len
+ *     Out: the conflict, its mask and its values (enum leading_conflict), after
+ *     LEADING_REDUCE_CONFLICT only. At least LEADING_CONFLICT_WORDS words; fewer
+ *     are refused with 2, before the sheet is looked at. Before: anything. After:
+ *     words behind the two unchanged; after the other answers all unchanged.
+ * result, result_len
+ *     Out: the two words of enum leading_answer, the first an enum
+ *     leading_reduce_answer. Otherwise as for leading_test.
+ *
+ * Returns LEADING_OK (0) after a reduction, with the result written; otherwise the
+ * number of the refusal (2, 5 to 13, 14, 15, in this order), with every buffer as
+ * it was.
+ *
+ * Example: the small plant again. Can selector and clutch be well together?
+ *
+ * @code
+ * #include <inttypes.h>
+ * #include <stdio.h>
+ * #include "leading.h"
+ *
+ * int main(void)
+ * {
+ *     static const uint8_t sheet[] = {
+ *         0x01, 0x10, 0x20, 0x10, 0x80, 0x00, 0x00, 0x01, 0x88, 0x00,
+ *         0x00, 0x00, 0x18, 0x98, 0x10, 0x06, 0x01, 0x04, 0x42, 0x00};
+ *     uint64_t mask = LEADING_MASK(0) | LEADING_MASK(1);
+ *     uint64_t values = LEADING_CODE(0, 0) | LEADING_CODE(1, 0);
+ *     uint64_t conflict[LEADING_CONFLICT_WORDS];
+ *     uint32_t result[LEADING_ANSWER_WORDS];
+ *
+ *     uint32_t refused = leading_test(sheet, sizeof sheet, mask, values, 1000000,
+ *                                     result, LEADING_ANSWER_WORDS);
+ *     if (refused == LEADING_OK) {
+ *         printf("%s, %" PRIu32 " trials\n",
+ *                leading_test_text(result[LEADING_ANSWER]),
+ *                result[LEADING_ANSWER_TRIALS]);
+ *         refused = leading_reduce(sheet, sizeof sheet, mask, values, 1000000,
+ *                                  conflict, LEADING_CONFLICT_WORDS,
+ *                                  result, LEADING_ANSWER_WORDS);
+ *     }
+ *     if (refused != LEADING_OK) {
+ *         printf("refused: %s\n", leading_refusal_text(refused));
+ *         return 1;
+ *     }
+ *     if (result[LEADING_ANSWER] != LEADING_REDUCE_CONFLICT)
+ *         return 1;
+ *     for (unsigned part = 0; part < LEADING_PARTS(sheet); part++)
+ *         if (conflict[LEADING_CONFLICT_MASK] & LEADING_MASK(part))
+ *             printf("part %u in state %u\n", part,
+ *                    LEADING_VALUE(conflict[LEADING_CONFLICT_VALUES], part));
+ *     return 0;
+ * }
+ * @endcode
+ *
+ * It prints
+ *
+ * @output
+ * inconsistent, 2 trials
+ * part 0 in state 0
+ * part 1 in state 0
+ * @endoutput
+ */
+uint32_t leading_reduce(const uint8_t *sheet, size_t sheet_len,
+                        uint64_t mask, uint64_t values, uint32_t limit,
+                        uint64_t *conflict, size_t conflict_len,
+                        uint32_t *result, size_t result_len);
 
 #ifdef __cplusplus
 }

@@ -1,5 +1,5 @@
-"""Random listing cases: whole and damaged sheets, fair and extreme settings,
-junk in every lent buffer, offers of every kind."""
+"""Random cases of listings, tests and reductions: whole and damaged sheets, fair
+and extreme settings, junk in every lent buffer, offers and words of every kind."""
 
 from array import array
 from dataclasses import dataclass
@@ -8,21 +8,59 @@ from typing import NamedTuple
 
 from listing import Settings
 from plant import Refusal, encode, fields, pack, read
-from search import to_words
+from search import to_words, well_formed
 from shapes import nogood_plant, random_sizes, random_words, shaped
 from shapes import small_random_plant, spoil
 from sheet_cases import end_damage, flipped, header_damage, longest_plant
-from test_cases import tight_plant
+from test_cases import Call, answer_call, tight_plant
 
 U32_MOST = 2**32 - 1
 ENTRIES_MOST = 4096
+LIST, TEST, REDUCE = range(3)  # the calls, as replay.c numbers them
 
 
 class Case(NamedTuple):
+    """A listing; as a CallCase has them too, which call it is, its numbers, and
+    the words of its buffers by name, in the call's order."""
+
     sheet: bytes
     settings: Settings
     result: list  # the result words as lent
     damaged: bool = False
+
+    kind = LIST
+
+    def numbers(self):
+        return {name: getattr(self.settings, name) for name in ("k", "held", "limit")}
+
+    def lent(self):
+        s = self.settings
+        work = {"codes": s.codes, "costs": s.costs, "queue": s.queue, "store": s.store}
+        return {"sheet": self.sheet, **work, "result": self.result}
+
+
+class CallCase(NamedTuple):
+    """A test or a reduction; a test lends no conflict."""
+
+    call: Call
+    conflict: list  # as lent, as is the result
+    result: list
+    damaged: bool = False
+
+    @property
+    def kind(self):
+        return REDUCE if self.call.kind else TEST
+
+    @property
+    def sheet(self):
+        return self.call.sheet
+
+    def numbers(self):
+        return {name: getattr(self.call, name) for name in ("mask", "values", "limit")}
+
+    def lent(self):
+        work = {"conflict": self.conflict} if self.kind == REDUCE else {}
+        return {"sheet": self.sheet, **work, "result": self.result}
 
 
 @dataclass
@@ -83,6 +121,17 @@ PLANTS = [
     (1, long_list_plant),
     (0.2, longest_plant),
 ]
+
+
+def searching_plant(rng):
+    """Long searches that fail again and again: about as many clauses as can be met."""
+    sizes = [rng.randint(2, 3) for _ in range(rng.randint(8, 48))]
+    decisions = rng.randint(1, min(16, len(sizes)))
+    lengths = [3] * round(rng.uniform(3, 6) * len(sizes))
+    return shaped(rng, sizes, decisions, lengths, "zero")
+
+
+CALL_PLANTS = PLANTS + [(20, searching_plant)]
 
 
 def any_plant(rng, plants=PLANTS):
@@ -256,3 +305,54 @@ def any_case(rng):
     if rng.random() < 0.9:
         put_offers(settings, offers)
     return Case(sheet, settings, junk(rng, shape.result, 4), damaged)
+
+
+# ---- tests and reductions --------------------------------------------------
+
+
+def completed(rng, plant, words):
+    """The assignment with a value for every other part."""
+    own = well_formed(plant, *words)
+    filled = (rng.randrange(len(c)) if v is None else v for v, c in zip(own, plant.costs))
+    return to_words(tuple(filled))
+
+
+def any_words(rng, plant):
+    """Junk, a broken clause, all parts with one broken, well formed, or spoiled."""
+    kind = rng.randrange(10)
+    if kind == 1:
+        return broken_clause(rng, plant)
+    if 1 < kind < 5:
+        return completed(rng, plant, broken_clause(rng, plant))
+    words = random_words(rng, plant, rng.choice([0.0, 0.3, 0.7, 1.0]))
+    if kind == 0:
+        return rng.choice([words[0], rng.getrandbits(64)]), rng.getrandbits(64)
+    return spoil(rng, plant, words) if kind == 9 else words
+
+
+def put_limit(rng, call):
+    """The call with a limit that is ample, exact, one short, 0 or small. One with
+    too many trials for the outside program gets a limit that strikes."""
+    most = rng.choice([3000] * 15 + [60_000])
+    try:
+        trials = answer_call(call._replace(limit=most)).trials
+    except Refusal:
+        return call._replace(limit=any_limit(rng))
+    ample = U32_MOST if trials < most else most
+    limits = [ample, ample, ample, trials, max(trials - 1, 0), 0, rng.randint(0, trials)]
+    return call._replace(limit=rng.choice(limits))
+
+
+def answer_room(rng):
+    """Words of a buffer that two are written to: now and then too few."""
+    return rng.randrange(5) if rng.random() < 0.2 else rng.choice([2, 2, 3, 4])
+
+
+def any_call(rng):
+    plant = any_plant(rng, CALL_PLANTS)
+    damaged = rng.random() < 0.3
+    sheet = rng.choice(DAMAGE)(rng, plant) if damaged else encode(plant)
+    kind = rng.randrange(2)
+    call = put_limit(rng, Call(kind, sheet, *any_words(rng, plant), 0))
+    conflict = junk(rng, answer_room(rng), 8) if kind else []
+    return CallCase(call, conflict, junk(rng, answer_room(rng), 4), damaged)

@@ -1,10 +1,11 @@
-/* Replays listing calls on the archive: cases from standard input, answers to
- * standard output, both binary in the machine's byte order.
+/* Replays calls on the archive: cases from standard input, answers to standard
+ * output, both binary in the machine's byte order.
  *
- * Case: nine u64, the lengths of sheet, codes, costs, queue, store and result,
- * then k, held and limit; then the six buffers as they are lent. Answer: two
- * u64, what the call returned and how many bytes around the buffers changed;
- * then the six buffers as they came back.
+ * Case: a u64, which call (0 list, 1 test, 2 reduce); a u64 for the length of each
+ * of its buffers, in the call's order; three u64, its numbers: of a listing k, held
+ * and limit, of the others mask, values and limit; then the buffers as they are
+ * lent. Answer: two u64, what the call returned and how many bytes around the
+ * buffers changed; then the buffers as they came back.
  */
 #include "leading.h"
 
@@ -15,14 +16,42 @@
 #define GUARD 64 /* bytes before each buffer, and behind it */
 #define GUARD_BYTE 0xa5
 
-enum { SHEET, CODES, COSTS, QUEUE, STORE, RESULT, BUFFERS };
-enum { K = BUFFERS, HELD, LIMIT, FIELDS };
-
-static const size_t widths[BUFFERS] = {1, 8, 4, 8, 8, 4};
+enum { BUFFERS_MOST = 6, NUMBERS = 3 };
 
 struct lent {
     unsigned char *all;
     size_t bytes;
+};
+
+/* One of the calls, on buffers with their lengths and three numbers. */
+typedef uint32_t call(void *const *at, const uint64_t *len, const uint64_t *number);
+
+static uint32_t list(void *const *at, const uint64_t *len, const uint64_t *number)
+{
+    return leading_list(at[0], len[0], at[1], len[1], at[2], len[2], at[3], len[3], at[4],
+                        len[4], at[5], len[5], (uint32_t)number[0], number[1],
+                        (uint32_t)number[2]);
+}
+
+static uint32_t test(void *const *at, const uint64_t *len, const uint64_t *number)
+{
+    return leading_test(at[0], len[0], number[0], number[1], (uint32_t)number[2], at[1],
+                        len[1]);
+}
+
+static uint32_t reduce(void *const *at, const uint64_t *len, const uint64_t *number)
+{
+    return leading_reduce(at[0], len[0], number[0], number[1], (uint32_t)number[2], at[1],
+                          len[1], at[2], len[2]);
+}
+
+static const struct kind {
+    call *call;
+    size_t buffers, widths[BUFFERS_MOST];
+} kinds[] = {
+    {list, 6, {1, 8, 4, 8, 8, 4}}, /* sheet, codes, costs, queue, store, result */
+    {test, 2, {1, 4}},             /* sheet, result */
+    {reduce, 3, {1, 8, 4}},        /* sheet, conflict, result */
 };
 
 static void give_up(const char *why)
@@ -31,14 +60,19 @@ static void give_up(const char *why)
     exit(2);
 }
 
+static void take(void *to, size_t bytes)
+{
+    if (fread(to, 1, bytes, stdin) != bytes)
+        give_up("a case is cut short");
+}
+
 static struct lent lend(size_t bytes)
 {
     struct lent lent = {malloc(bytes + 2 * GUARD), bytes};
     if (lent.all == NULL)
         give_up("no memory");
     memset(lent.all, GUARD_BYTE, bytes + 2 * GUARD);
-    if (fread(lent.all + GUARD, 1, bytes, stdin) != bytes)
-        give_up("a case is cut short");
+    take(lent.all + GUARD, bytes);
     return lent;
 }
 
@@ -52,29 +86,23 @@ static uint64_t strays(const struct lent *lent)
     return changed;
 }
 
-static uint32_t call(const uint64_t *fields, struct lent *lent)
+static void answer(const struct kind *kind)
 {
-    void *at[BUFFERS];
-    for (int i = 0; i < BUFFERS; i++)
+    struct lent lent[BUFFERS_MOST];
+    void *at[BUFFERS_MOST];
+    uint64_t len[BUFFERS_MOST], number[NUMBERS], head[2] = {0, 0};
+    take(len, kind->buffers * sizeof *len);
+    take(number, sizeof number);
+    for (size_t i = 0; i < kind->buffers; i++) {
+        lent[i] = lend(len[i] * kind->widths[i]);
         at[i] = lent[i].all + GUARD;
-    return leading_list(at[SHEET], fields[SHEET], at[CODES], fields[CODES],
-                        at[COSTS], fields[COSTS], at[QUEUE], fields[QUEUE],
-                        at[STORE], fields[STORE], at[RESULT], fields[RESULT],
-                        (uint32_t)fields[K], fields[HELD], (uint32_t)fields[LIMIT]);
-}
-
-static void answer(const uint64_t *fields)
-{
-    struct lent lent[BUFFERS];
-    uint64_t head[2] = {0, 0};
-    for (int i = 0; i < BUFFERS; i++)
-        lent[i] = lend(fields[i] * widths[i]);
-    head[0] = call(fields, lent);
-    for (int i = 0; i < BUFFERS; i++)
+    }
+    head[0] = kind->call(at, len, number);
+    for (size_t i = 0; i < kind->buffers; i++)
         head[1] += strays(&lent[i]);
     fwrite(head, sizeof head, 1, stdout);
-    for (int i = 0; i < BUFFERS; i++) {
-        fwrite(lent[i].all + GUARD, 1, lent[i].bytes, stdout);
+    for (size_t i = 0; i < kind->buffers; i++) {
+        fwrite(at[i], 1, lent[i].bytes, stdout);
         free(lent[i].all);
     }
     fflush(stdout); /* so that all answers before a crash are seen */
@@ -82,8 +110,11 @@ static void answer(const uint64_t *fields)
 
 int main(void)
 {
-    uint64_t fields[FIELDS];
-    while (fread(fields, sizeof fields, 1, stdin) == 1)
-        answer(fields);
+    uint64_t which;
+    while (fread(&which, sizeof which, 1, stdin) == 1) {
+        if (which >= sizeof kinds / sizeof *kinds)
+            give_up("no such call");
+        answer(&kinds[which]);
+    }
     return ferror(stdout) ? 2 : 0;
 }

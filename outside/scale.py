@@ -1,7 +1,8 @@
-"""The archive against the outside lister at scale; README.md has the command.
+"""The archive against the outside program at scale; README.md has the command.
 
 `replay.c` calls the archive; here the cases are made, every lent word is
 compared, demand 3 is checked, and the lists of one sheet are held together.
+Tests and reductions are compared likewise, and checked by brute force.
 """
 
 import argparse
@@ -17,14 +18,15 @@ from typing import NamedTuple
 
 sys.dont_write_bytecode = True
 
-from cases import Case, Shape, any_case, any_plant, junk, lend
+from cases import REDUCE, TEST, Case, Shape, any_call, any_case, any_plant, junk, lend
 from cases import crowded_plant, put_offers, tied_plant, wide_plant
-from listing import ENDINGS, Result, Run, Settings, export
-from plant import encode, read
-from search import Meter
+from listing import ENDINGS, Result, Run, Settings, export, manifests
+from plant import Refusal, encode, read
+from search import Meter, well_formed
 from shapes import nogood_plant, random_words, small_random_plant
-from test_cases import tight_plant
-from whole import begins, check_demand3, check_rest, whole_set
+from test_cases import answer_call, tight_plant
+from whole import begins, brute_consistent, check_demand3, check_rest
+from whole import consistent_states, minimal, whole_set
 
 WORK_MOST = 300_000
 TRIALS_MOST = 60_000
@@ -33,10 +35,15 @@ BATCH = 100
 TIME_MOST = 300  # seconds for a batch
 SHOWN_MOST = 10
 ROUNDS = 25
-NAMES = ("sheet", "codes", "costs", "queue", "store", "result")
-WIDTHS = (1, 8, 4, 8, 8, 4)
+WIDTHS = {"sheet": 1, "codes": 8, "costs": 4, "queue": 8, "store": 8, "conflict": 8, "result": 4}
 TYPES = {1: "B", 4: "I", 8: "Q"}
 ENDING_NAMES = {number: name for name, number in ENDINGS.items()}
+ANSWERS = {
+    TEST: ("consistent", "inconsistent", "spent"),
+    REDUCE: ("none", "conflict", "spent"),
+}
+ANSWER_WORDS = CONFLICT_WORDS = 2
+SHORT_BUFFER = 2  # the refusal
 
 
 class TooLong(Exception):
@@ -68,16 +75,22 @@ class Bounded(Run):
 class Answer(NamedTuple):
     returned: int
     strays: int  # bytes around the buffers that changed
-    buffers: tuple  # the bytes of each, in the order of NAMES
+    buffers: dict  # the bytes of each by its name, in the call's order
+
+    def words(self, name):
+        return words_of(self.buffers[name], name)
 
 
-# ---- the two listers -------------------------------------------------------
+# ---- the two programs ------------------------------------------------------
+
+
+def words_of(buffer, name):
+    return array(TYPES[WIDTHS[name]], buffer).tolist()
 
 
 def buffers_of(case):
-    s = case.settings
-    words = (case.sheet, s.codes, s.costs, s.queue, s.store, case.result)
-    return tuple(array(TYPES[w], own).tobytes() for w, own in zip(WIDTHS, words))
+    pairs = case.lent().items()
+    return {name: array(TYPES[WIDTHS[name]], own).tobytes() for name, own in pairs}
 
 
 def copy_of(case):
@@ -93,26 +106,48 @@ def wanted(case):
     return Answer(returned, 0, buffers_of(own))
 
 
+def answer_to(case):
+    """The outside program's answer to a test or reduction: what it returns, and
+    the conflict and the result as they are afterwards."""
+    conflict, result = list(case.conflict), list(case.result)
+    if len(result) < ANSWER_WORDS or case.kind == REDUCE and len(conflict) < CONFLICT_WORDS:
+        return SHORT_BUFFER, conflict, result
+    try:
+        answer = answer_call(case.call)
+    except Refusal as refusal:
+        return refusal.number, conflict, result
+    result[:ANSWER_WORDS] = ANSWERS[case.kind].index(answer.name) + 1, answer.trials
+    if answer.name == "conflict":
+        conflict[:CONFLICT_WORDS] = answer.found
+    return 0, conflict, result
+
+
+def wanted_call(case):
+    returned, conflict, result = answer_to(case)
+    after = case._replace(conflict=conflict, result=result)
+    return Answer(returned, 0, buffers_of(after))
+
+
 def case_bytes(case):
     buffers = buffers_of(case)
-    lengths = [len(own) // width for own, width in zip(buffers, WIDTHS)]
-    s = case.settings
-    return pack("=9Q", *lengths, s.k, s.held, s.limit) + b"".join(buffers)
+    lengths = [len(own) // WIDTHS[name] for name, own in buffers.items()]
+    head = (case.kind, *lengths, *case.numbers().values())
+    return pack(f"={len(head)}Q", *head) + b"".join(buffers.values())
 
 
 def take_answer(data, place, case):
     """The answer at this place and where it ends; None where it is cut off."""
-    lengths = list(map(len, buffers_of(case)))
-    end = place + 16 + sum(lengths)
+    lengths = {name: len(own) for name, own in buffers_of(case).items()}
+    end = place + 16 + sum(lengths.values())
     if end > len(data):
         return None, end
     returned, strays = unpack_from("=2Q", data, place)
     place += 16
-    buffers = []
-    for length in lengths:
-        buffers.append(data[place : place + length])
+    buffers = {}
+    for name, length in lengths.items():
+        buffers[name] = data[place : place + length]
         place += length
-    return Answer(returned, strays, tuple(buffers)), end
+    return Answer(returned, strays, buffers), end
 
 
 def replay(driver, names, cases):
@@ -133,79 +168,121 @@ def replay(driver, names, cases):
 # ---- comparing -------------------------------------------------------------
 
 
-def words_of(buffer, width):
-    return array(TYPES[width], buffer).tolist()
-
-
 def differences(got, want):
     if got.returned != want.returned:
         yield f"returned {got.returned}, wanted {want.returned}"
     if got.strays:
         yield f"{got.strays} bytes around the buffers changed"
-    for name, width, own, other in zip(NAMES, WIDTHS, got.buffers, want.buffers):
-        if own != other:
-            pairs = enumerate(zip(words_of(own, width), words_of(other, width)))
+    for name, own in got.buffers.items():
+        if own != want.buffers[name]:
+            pairs = enumerate(zip(got.words(name), want.words(name)))
             place, (is_, was) = next((p, pair) for p, pair in pairs if pair[0] != pair[1])
             yield f"{name}[{place}] is {is_:#x}, wanted {was:#x}"
 
 
 def result_of(answer):
     """The archive's answer as a result of the outside program."""
-    _, codes, costs, queue, store, result = map(words_of, answer.buffers, WIDTHS)
-    number, listed, tested, learned, unkept, trials = result[:6]
+    number, listed, tested, learned, unkept, trials = answer.words("result")[:6]
     struck = tested == listed + learned + unkept + 1
     counts = (listed, tested, learned, unkept, trials, struck)
-    return Result(ENDING_NAMES[number], *counts, codes, costs, queue, store)
+    buffers = map(answer.words, ("codes", "costs", "queue", "store"))
+    return Result(ENDING_NAMES[number], *counts, *buffers)
 
 
 def list_of(answer):
-    listed = words_of(answer.buffers[5], 4)[1]
-    codes, costs = words_of(answer.buffers[1], 8), words_of(answer.buffers[2], 4)
-    return list(zip(costs[:listed], codes[:listed]))
+    listed = answer.words("result")[1]
+    return list(zip(answer.words("costs")[:listed], answer.words("codes")[:listed]))
+
+
+def check_answer(case, answer, plant):
+    """What an answer to a test or reduction breaks of document 01, by brute force."""
+    states, call = consistent_states(plant), case.call
+    number, trials = answer.words("result")[:ANSWER_WORDS]
+    name = ANSWERS[case.kind][number - 1]
+    given = well_formed(plant, call.mask, call.values)
+    if trials > call.limit or name == "spent" and trials != call.limit:
+        yield f"{name} after {trials} trials"
+    if name != "spent" and brute_consistent(states, given) != (number == 1):
+        yield f"{name}, and brute force says otherwise"
+    if name == "conflict":
+        conflict = well_formed(plant, *answer.words("conflict")[:CONFLICT_WORDS])
+        if not minimal(states, conflict) or not manifests(given, conflict):
+            yield "the conflict is not a least part of what was given"
 
 
 class Tally:
+    """Counts of what was compared, and of what differed."""
+
     def __init__(self):
         self.counts = Counter()
-        self.endings = Counter()
         self.refusals = Counter()
 
     def complain(self, name, what, case):
         self.counts["differences"] += 1
         if self.counts["differences"] > SHOWN_MOST:
             return
-        s = case.settings
+        words = {name: len(own) for name, own in case.lent().items()}
+        numbers = {name: f"{number:#x}" for name, number in case.numbers().items()}
         print(f"scale: {name}: {what}")
         print(f"  sheet {case.sheet.hex()}")
-        print(f"  k {s.k} queue {len(s.queue)} store {len(s.store)} held {s.held} limit {s.limit}")
+        print(f"  {in_words(numbers)}; lengths: {in_words(words)}")
 
     def count(self, case, want):
         self.counts["cases"] += 1
         self.counts["damaged"] += case.damaged
-        sizes = zip(want.buffers[1:], WIDTHS[1:])
-        self.counts["words"] += sum(len(own) // width for own, width in sizes)
+        lent = case.lent()
+        self.counts["words"] += sum(map(len, lent.values())) - len(case.sheet)
         if want.returned:
             self.refusals[want.returned] += 1
             return
         self.counts["damaged and read"] += case.damaged
-        result = words_of(want.buffers[5], 4)
-        self.endings[ENDING_NAMES[result[0]]] += 1
-        self.counts["longest"] = max(self.counts["longest"], result[1])
+        self.count_run(case, want.words("result"))
 
     def check(self, name, case, got, want):
-        """Every lent word against the outside lister's, then demand 3."""
+        """Every lent word against the outside program's, then by brute force."""
         self.count(case, want)
         found = list(differences(got, want))
         if not found and not got.returned:
             plant = read(case.sheet)
             if prod(plant.sizes) <= SPACE_MOST:
-                result = result_of(got)
-                self.counts["demand 3"] += 1
-                self.counts["struck in a reduction"] += result.struck_in_reduction
-                found += check_demand3(result, plant, case.settings)
-                found += check_rest(result, plant, case.settings)
+                found += self.check_run(case, got, plant)
         for what in found:
             self.complain(name, what, case)
+
+
+class ListingTally(Tally):
+    """Of listings; a run is checked against demand 3."""
+
+    def __init__(self):
+        super().__init__()
+        self.endings = Counter()
+
+    def count_run(self, case, result):
+        self.endings[ENDING_NAMES[result[0]]] += 1
+        self.counts["longest"] = max(self.counts["longest"], result[1])
+
+    def check_run(self, case, got, plant):
+        result = result_of(got)
+        self.counts["demand 3"] += 1
+        self.counts["struck in a reduction"] += result.struck_in_reduction
+        found = check_demand3(result, plant, case.settings)
+        return found + check_rest(result, plant, case.settings)
+
+
+class CallTally(Tally):
+    """Of tests and reductions; an answer is checked by brute force."""
+
+    def __init__(self):
+        super().__init__()
+        self.answers = {TEST: Counter(), REDUCE: Counter()}
+
+    def count_run(self, case, result):
+        self.answers[case.kind][ANSWERS[case.kind][result[0] - 1]] += 1
+        self.counts["most trials"] = max(self.counts["most trials"], result[1])
+
+    def check_run(self, case, got, plant):
+        self.counts["brute force"] += 1
+        return list(check_answer(case, got, plant))
 
 
 # ---- random cases ----------------------------------------------------------
@@ -213,7 +290,7 @@ class Tally:
 
 def near_its_end(rng, case, want):
     """The case with a limit just at or below the trials it takes."""
-    trials = words_of(want.buffers[5], 4)[5] if not want.returned else 0
+    trials = want.words("result")[5] if not want.returned else 0
     if not trials or rng.random() < 0.7:
         return case, want
     case.settings.limit = rng.choice([trials, trials - 1, rng.randrange(trials)])
@@ -231,11 +308,17 @@ def case_at(seed, number, tally):
             tally.counts["left out"] += 1
 
 
-def run_cases(driver, seed, numbers, tally):
+def call_at(seed, number, tally):
+    """The test or reduction of this number with its wanted answer."""
+    case = any_call(Random(f"{seed} call {number}"))
+    return case, wanted_call(case)
+
+
+def run_cases(driver, seed, numbers, tally, word="case", make=case_at):
     for first in range(numbers.start, numbers.stop, BATCH):
         batch = range(first, min(first + BATCH, numbers.stop))
-        names = [f"seed {seed}, case {number}" for number in batch]
-        pairs = [case_at(seed, number, tally) for number in batch]
+        names = [f"seed {seed}, {word} {number}" for number in batch]
+        pairs = [make(seed, number, tally) for number in batch]
         answers = replay(driver, names, [case for case, _ in pairs])
         for name, (case, want), got in zip(names, pairs, answers):
             tally.check(name, case, got, want)
@@ -316,7 +399,7 @@ class History:
                 tally.counts["left out"] += 1
 
     def take(self, answer):
-        self.left = words_of(answer.buffers[4], 8)
+        self.left = answer.words("store")
         self.lists.append(list_of(answer))
 
 
@@ -359,6 +442,20 @@ def in_words(counter):
     return ", ".join(f"{name} {counter[name]}" for name in sorted(counter)) or "none"
 
 
+def report_calls(tally):
+    c = tally.counts
+    print(
+        f"scale: {c['cases']} tests and reductions, {c['damaged']} of damaged sheets "
+        f"({c['damaged and read']} of these ran), {c['words']} lent words compared\n"
+        f"scale: tests: {in_words(tally.answers[TEST])}; "
+        f"reductions: {in_words(tally.answers[REDUCE])}; "
+        f"the most trials {c['most trials']}\n"
+        f"scale: refusals: {in_words(tally.refusals)}\n"
+        f"scale: {c['brute force']} answers checked by brute force\n"
+        f"scale: {c['differences']} differences"
+    )
+
+
 def report(tally, sheets):
     c = tally.counts
     print(
@@ -378,17 +475,21 @@ def report(tally, sheets):
 def main():
     parser = argparse.ArgumentParser(description=__doc__)
     parser.add_argument("driver", help="replay.c, compiled and linked with the archive")
-    parser.add_argument("--cases", type=int, default=30_000)
-    parser.add_argument("--first", type=int, default=0, help="number of the first case")
+    parser.add_argument("--cases", type=int, default=30_000, help="listings")
+    parser.add_argument("--calls", type=int, default=30_000, help="tests and reductions")
+    parser.add_argument("--first", type=int, default=0, help="number of the first case and call")
     parser.add_argument("--sheets", type=int, default=1000, help="with a history each")
     parser.add_argument("--seed", type=int, default=1)
     words = parser.parse_args()
-    tally = Tally()
-    numbers = range(words.first, words.first + words.cases)
-    run_cases(words.driver, words.seed, numbers, tally)
-    run_histories(words.driver, words.seed, words.sheets, tally)
-    report(tally, words.sheets)
-    sys.exit(1 if tally.counts["differences"] else 0)
+    listings, calls = ListingTally(), CallTally()
+    cases = range(words.first, words.first + words.cases)
+    run_cases(words.driver, words.seed, cases, listings)
+    run_histories(words.driver, words.seed, words.sheets, listings)
+    report(listings, words.sheets)
+    numbers = range(words.first, words.first + words.calls)
+    run_cases(words.driver, words.seed, numbers, calls, "call", call_at)
+    report_calls(calls)
+    sys.exit(1 if listings.counts["differences"] or calls.counts["differences"] else 0)
 
 
 if __name__ == "__main__":
