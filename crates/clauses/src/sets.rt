@@ -17,9 +17,10 @@ pub type Set = [u64; SET_WORDS];
 // The clauses that the first two words of a set have room for.
 pub const PAIR_CLAUSES: usize = 128;
 
-// The words of the table with a row for each variable and value, and of that with a row for each variable.
+// The words of the table with a row for each variable and value.
 pub const SAT_WORDS: usize = VARIABLES * VALUES * SET_WORDS;
 
+// The words of the table with a row for each variable.
 pub const USES_WORDS: usize = VARIABLES * SET_WORDS;
 
 pub type Sat = [u64; SAT_WORDS];

@@ -12,11 +12,13 @@ use printing::print_text;
 ghost use Prim.Native.Nat.{_≤_};
 ghost use lib.ListN.{length};
 
-// States wanted, words of the store, and trials that the run may take.
+// States wanted.
 const WANTED: usize = 16;
 
+// Words of the store: 64 entries.
 const STORE_WORDS: usize = 128;
 
+// Trials that the run may take.
 const TRIALS: u32 = 1_000_000;
 
 // Bytes that decide: one more than the longest sheet has.

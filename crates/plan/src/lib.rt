@@ -20,16 +20,19 @@ ghost use Rattle.clauses.specs.Sets.{inPair, Within};
 ghost use Rattle.trials.specs.Searches.{Lent};
 ghost use Rattle.plan.specs.Plans.{planWords, rowWords, inPlan, Planned, Recalled, noted, filledFrom, afterwards};
 
-// The words of a row, the place of the number of variables, where the notes begin, the words of a note, and all words:
-// there is room for a note behind the last variable, since that is the last one's next.
+// The words of a row.
 pub const ROW_WORDS: usize = 4;
 
+// The place of the number of variables, behind the rows.
 pub const COUNT_PLACE: usize = VARIABLES * ROW_WORDS;
 
+// Where the notes begin.
 pub const NOTES_BEGIN: usize = COUNT_PLACE + 1;
 
+// The words of a note.
 pub const NOTE_WORDS: usize = 5;
 
+// All words. There is room for a note behind the last variable, since that is the last one's next.
 pub const PLAN_WORDS: usize = NOTES_BEGIN + (VARIABLES + 1) * NOTE_WORDS;
 
 pub type Plan = [u64; PLAN_WORDS];
@@ -70,20 +73,17 @@ fn taken_in(
         plan[v * ROW_WORDS + 2] = first ^ (first & s.open1);
         plan[v * ROW_WORDS + 3] = second ^ (second & s.open2);
         return Sets {
-            held1: s.held1,
-            held2: s.held2,
             open1: s.open1 | first,
             open2: s.open2 | second,
             next: v,
+            ..s
         };
     }
     let row = v * VALUES + wide(a);
     Sets {
         held1: s.held1 | sat[row * SET_WORDS],
         held2: s.held2 | sat[row * SET_WORDS + 1],
-        open1: s.open1,
-        open2: s.open2,
-        next: s.next,
+        ..s
     }
 }
 

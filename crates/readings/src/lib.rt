@@ -10,21 +10,25 @@ use limits::VARIABLES;
 // State variables of a plant.
 pub const STATES: usize = VARIABLES - DECISIONS;
 
-// Bits of the edition with the three counts, and of a literal.
+// Bits of the edition with the three counts.
 pub const HEAD_BITS: usize = 29;
 
+// Bits of a literal.
 pub const LITERAL_BITS: usize = 11;
 
-// Entries of the tables: a size for each variable, a cost for each value of each decision variable, a literal count for
-// each clause, and three bytes for each literal, of one clause and of all.
+// Entries of the table of sizes: one for each variable.
 pub const SIZE_ENTRIES: usize = VARIABLES;
 
+// Entries of the table of costs: one for each value of each decision variable.
 pub const COST_ENTRIES: usize = DECISIONS * VALUES;
 
+// Entries of the table of literal counts: one for each clause.
 pub const COUNT_ENTRIES: usize = CLAUSES;
 
+// Bytes of a clause's literals, three each.
 pub const CLAUSE_BYTES: usize = LITERALS * 3;
 
+// Bytes of the table of literals.
 pub const LITERAL_BYTES: usize = COUNT_ENTRIES * CLAUSE_BYTES;
 
 // A part that is in a table: the place after it, or a refusal.

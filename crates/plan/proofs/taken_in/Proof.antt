@@ -119,8 +119,8 @@ mul-t14 c = let s = c .before .before .before .before .before .before in omega (
 mul-t13 : tie.Need-mul-t13
 mul-t13 c = let s = c .before .before .before .before .before .before in omega (arith, s .pre .0 .bytes (s .args .v))
 
-element-copy-out-t40 : tie.Need-element-copy-out-t40
-element-copy-out-t40 c = let s = c .before .before .before .before .before .before in omega (arith, s .pre .0 .bytes (s .args .v))
+element-copy-out-t42 : tie.Need-element-copy-out-t42
+element-copy-out-t42 c = let s = c .before .before .before .before .before .before in omega (arith, s .pre .0 .bytes (s .args .v))
 
 mul-t12 : tie.Need-mul-t12
 mul-t12 c = let s = c .before .before .before .before .before .before .before .before in omega (arith, s .pre .0 .bytes (s .args .v))
@@ -128,11 +128,11 @@ mul-t12 c = let s = c .before .before .before .before .before .before .before .b
 add-t15 : tie.Need-add-t15
 add-t15 c = let s = c .before .before .before .before .before .before .before .before in omega (arith, s .pre .0 .bytes (s .args .v))
 
-mul-t42 : tie.Need-mul-t42
-mul-t42 c = let s = c .before .before .before .before .before .before .before .before in omega (arith, s .pre .0 .bytes (s .args .v))
+mul-t44 : tie.Need-mul-t44
+mul-t44 c = let s = c .before .before .before .before .before .before .before .before in omega (arith, s .pre .0 .bytes (s .args .v))
 
-element-copy-out-t45 : tie.Need-element-copy-out-t45
-element-copy-out-t45 c = let s = c .before .before .before .before .before .before .before .before in omega (arith, s .pre .0 .bytes (s .args .v))
+element-copy-out-t47 : tie.Need-element-copy-out-t47
+element-copy-out-t47 c = let s = c .before .before .before .before .before .before .before .before in omega (arith, s .pre .0 .bytes (s .args .v))
 
 returns-2 : tie.Need-returns-2
 returns-2 c =
@@ -181,9 +181,9 @@ taken-in-spec =
     add-row
     mul-t14
     mul-t13
-    element-copy-out-t40
+    element-copy-out-t42
     mul-t12
     add-t15
-    mul-t42
-    element-copy-out-t45
+    mul-t44
+    element-copy-out-t47
     returns-2)
