@@ -30,7 +30,7 @@ use Rattle.offers.specs.Offers.{OfferedAs}
 use Rattle.judge.specs.Standing.{Written, Turn}
 use Rattle.steps.specs.Run.{Steps, FinishedAs}
 use Rattle.steps.proofs.Running.{tabled-lawful, tabled-present, tabled-at-least, tabled-suits}
-use Rattle.listing.specs.Listing.{question, buffers, Lists, Survivors}
+use Rattle.listing.specs.Listing.{question, buffers, Lists, first, Survivors}
 
 -- ---- the empty assignment as a node
 
@@ -65,10 +65,6 @@ module _ {p : Plant} {d : ℕ} {sizes prices counts lits : List ℕ} (t : Tabled
       }
 
 -- ---- the words at the start
-
--- nothing is listed, tested or learned
-abbrev pub first : (queued stored used : ℕ) → Progress
-first queued stored used = record { queued = queued; stored = stored; listed = 0; tested = 0; learned = 0; unkept = 0; trials = used }
 
 -- the store, the list and the counts are those of the start
 start-written : {p : Plant} {limit : ℕ} {survivors : List Assignment} {used : ℕ} {store : List ℕ} {stored : ℕ} (k : ℕ) (codes costs : List ℕ) (queued : ℕ)
@@ -110,14 +106,14 @@ module _ {d : ℕ} {sizes prices counts lits sat uses plan : List ℕ} {preferre
           costs-room = t .room .costs-room;
         }
 
-    abbrev pub start-steps : (queue′ : List ℕ) → length queue′ ≡ length queue → Holds (orderOf (t .plant)) 1 queue′ (enqueue (orderOf (t .plant)) (unassigned (decisionSizes (t .plant))) [])
-        → Steps d sizes prices counts lits sat uses plan preferred k limit codes costs queue′ store′ (first 1 stored used)
-    start-steps queue′ e h = record {
+    abbrev pub start-steps : {g : Progress} → g ≡ first 1 stored used → (queue′ : List ℕ) → length queue′ ≡ length queue → Holds (orderOf (t .plant)) 1 queue′ (enqueue (orderOf (t .plant)) (unassigned (decisionSizes (t .plant))) [])
+        → Steps d sizes prices counts lits sat uses plan preferred k limit codes costs queue′ store′ g
+    start-steps f queue′ e h = record {
       question = question (t .plant) k codes costs;
       state = start (decisionSizes (t .plant)) survivors used;
       asked = refl;
       tables = t .tables;
-      turn = start-turn queue′ e h;
+      turn = rw f (start-turn queue′ e h);
     }
 
 -- the queue weighs less than the steps allowed
@@ -151,14 +147,14 @@ module _ {d : ℕ} {sizes prices counts lits sat uses plan : List ℕ} {preferre
     checked-ends f codes′ costs′ o store′ e h = rw (listing, o .2, ← e) h
 
     -- the limit struck before the last
-    pub broken-ends : OfferedAs (t .plant) after (Offered.BrokenOff m used) offered
-        → FinishedAs (question (t .plant) k codes costs) after codes costs (record { ending = Ended.Spent; progress = first 0 m used })
+    pub broken-ends : {g : Progress} → g ≡ first 0 m used → OfferedAs (t .plant) after (Offered.BrokenOff m used) offered
+        → FinishedAs (question (t .plant) k codes costs) after codes costs (record { ending = Ended.Spent; progress = g })
         (listing (t .plant) (orderOf (t .plant)) k (length queue / 2) (length store / 2) (offersOf held store) limit)
     unfolding listing
-    broken-ends o =
+    broken-ends f o =
         let s : Survived (t .plant) limit (brokenOff (o .0) used) = rw (o .2) at survived in
         record {
           state = start (decisionSizes (t .plant)) (o .0) used;
           ends = rw (listing, o .2);
-          written = start-written k codes costs 0 (record { keeps = o .1; conflicts = s .0; within = s .1 });
+          written = rw f (start-written k codes costs 0 (record { keeps = o .1; conflicts = s .0; within = s .1 }));
         }

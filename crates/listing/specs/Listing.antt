@@ -12,6 +12,7 @@ use Rattle.model.specs.Calls.{refused, answered, Buffers, Counts, ran, Answer, 
 use Rattle.store.specs.Store.{Keeps}
 use Rattle.refusal.specs.Refusal.{refusalOf}
 use Rattle.steps.specs.declared.Finished.{Finished}
+use Rattle.judge.specs.declared.Progress.{Progress}
 use Rattle.judge.specs.Standing.{Question, endingOf}
 use Rattle.expand.specs.Expands.{Tables}
 use Rattle.listing.specs.declared.Answer.{Answer as Answers}
@@ -37,6 +38,10 @@ pub record Lists (d : ℕ) (sizes prices counts lits sat uses plan : List ℕ) (
   pub plant : Plant
   pub tables : Tables plant d sizes prices counts lits sat uses plan preferred
   pub room : Room k held b
+
+-- how far a run is at its start: nothing is listed, tested, learned or left unkept
+abbrev pub first : (queued stored trials : ℕ) → Progress
+first queued stored trials = record { queued = queued; stored = stored; listed = 0; tested = 0; learned = 0; unkept = 0; trials = trials }
 
 -- the store keeps the survivors of step 1, which are conflicts, and the trials are within the limit
 pub record Survivors (p : Plant) (limit : ℕ) (survivors : List Assignment) (used : ℕ) (store : List ℕ) (stored : ℕ) : Type 0 where

@@ -26,7 +26,7 @@ ghost use Rattle.model.specs.Calls.{offersOf};
 ghost use Rattle.theory.specs.Tables.{Tabled};
 ghost use Rattle.children.specs.Children.{NodeIs};
 ghost use Rattle.steps.specs.Run.{FinishedAs};
-ghost use Rattle.listing.specs.Listing.{question, buffers, Room, Lists, Survivors, Finishes, CalledAs, plantCall};
+ghost use Rattle.listing.specs.Listing.{question, buffers, Room, Lists, first, Survivors, Finishes, CalledAs, plantCall};
 
 // The counts of a run.
 pub struct Counts {
@@ -52,6 +52,21 @@ fn root(preferred: u64, prices: &[u16], d: usize) -> Node
         mask: 0,
         code: preferred,
         cost: words::cost(preferred, prices, d),
+    }
+}
+
+// How far a run is at its start: nothing is listed, tested, learned or left unkept.
+fn first(queued: usize, stored: usize, trials: u32) -> Progress
+    ensures { λ r. ⌜ r ≡ first queued stored trials ⌝ }
+{
+    Progress {
+        queued,
+        stored,
+        listed: 0,
+        tested: 0,
+        learned: 0,
+        unkept: 0,
+        trials,
     }
 }
 
@@ -82,6 +97,7 @@ fn from_root(
         → FinishedAs (question (t .plant) k (now (codes .entry)) (now (costs .entry))) (now (store .exit)) (now (codes .exit)) (now (costs .exit)) r
         (run (t .plant) (orderOf (t .plant)) k (length (now (queue .entry)) / 2) (length (now (store .entry)) / 2) limit (enoughSteps (decisionSizes (t .plant))) (start (decisionSizes (t .plant)) survivors used))) ⌝ }
 {
+    let progress = first(1, stored, used);
     let node = root(preferred, prices, d);
     let e = queue::entry_of(node.mask, node.code, node.cost);
     queue::push(queue, 0, e.a, e.b);
@@ -99,15 +115,7 @@ fn from_root(
         costs,
         queue,
         store,
-        Progress {
-            queued: 1,
-            stored: stored,
-            listed: 0,
-            tested: 0,
-            learned: 0,
-            unkept: 0,
-            trials: used,
-        },
+        progress,
         k,
         limit,
     )
@@ -140,15 +148,7 @@ fn listing(
     match check_all(d, sizes, counts, lits, sat, uses, plan, store, held, limit) {
         Offered::BrokenOff(m, t) => Finished {
             ending: Ending::Spent,
-            progress: Progress {
-                queued: 0,
-                stored: m,
-                listed: 0,
-                tested: 0,
-                learned: 0,
-                unkept: 0,
-                trials: t,
-            },
+            progress: first(0, m, t),
         },
         Offered::Checked(m, t) => from_root(
             d,

@@ -1,4 +1,4 @@
--- `listing::call::from_root` meets its contract. Assumes nothing.
+-- `from_root` meets its contract. Assumes nothing.
 use mathlib.Core.List.{[]}
 use native.Mathlib.Omega.{arith}
 use borrow.Author.Needs.{needs}
@@ -11,26 +11,30 @@ use Rattle.listing.proofs.Starting.{start-steps, start-enough}
 use Rattle.listing.proofs.from_root.Statement.{statement}
 use Rattle.listing.proofs.from_root.Tie as tie
 
+first-requires : tie.Need-first-requires
+first-requires c κs = search needs
+
 root-requires : tie.Need-root-requires
-root-requires c κs = let b = c .before .before .before .before .before .before .before .before .before .pre .0 .tables .tabled in (tabled-few b, b .cost-room)
+root-requires c κs = let b = c .before .before .before .before .before .before .before .before .before .before .pre .0 .tables .tabled in (tabled-few b, b .cost-room)
 
 entry-of-requires : tie.Need-entry-of-requires
 entry-of-requires c κs = search needs
 
 push-requires : tie.Need-push-requires
-push-requires c κs = omega (arith, c .before .before .before .before .before .before .before .before .before .before .before .before .pre .0 .room .queue-room)
+push-requires c κs = let start = c .before .before .before .before .before .before .before .before .before .before .before .before .before in omega (arith, start .pre .0 .room .queue-room)
 
 run-requires : tie.Need-run-requires
 run-requires c κs =
     let pushed = c .before .before .before .before .before .before .before in
     let entered = pushed .before .before in
     let rooted = entered .before in
-    let start = rooted .before .before .before .before .before .before .before .before .before .before in
+    let begun = rooted .before in
+    let start = begun .before .before .before .before .before .before .before .before .before .before in
     let t = start .pre .0 in
     let o = orderOf (t .plant) in
     let node = rooted .root .ensures (t .plant) _ _ _ (t .tables .tabled) (t .tables .preferred-is) in
     let entry = entered .entry-of .ensures o (unassigned (decisionSizes (t .plant))) (node .mask-is) (node .code-is) (node .cost-is) in
-    start-steps t (start .pre .2) _ (pushed .push .kept .0) (pushed .push .ensures o [] (unassigned (decisionSizes (t .plant))) (holds-nothing o _) entry)
+    start-steps t (start .pre .2) (begun .first .ensures) _ (pushed .push .kept .0) (pushed .push .ensures o [] (unassigned (decisionSizes (t .plant))) (holds-nothing o _) entry)
 
 same-length : tie.Need-same-length
 same-length c = search needs
@@ -50,15 +54,17 @@ returns c t survivors s =
     let pushed = ran .before .before .before .before .before .before .before .before in
     let entered = pushed .before .before in
     let o = orderOf (t .plant) in
-    let node = entered .before .root .ensures (t .plant) _ _ _ (t .tables .tabled) (t .tables .preferred-is) in
+    let rooted = entered .before in
+    let node = rooted .root .ensures (t .plant) _ _ _ (t .tables .tabled) (t .tables .preferred-is) in
     let entry = entered .entry-of .ensures o (unassigned (decisionSizes (t .plant))) (node .mask-is) (node .code-is) (node .cost-is) in
-    let steps = start-steps t s _ (pushed .push .kept .0) (pushed .push .ensures o [] (unassigned (decisionSizes (t .plant))) (holds-nothing o _) entry) in
+    let steps = start-steps t s (rooted .before .first .ensures) _ (pushed .push .kept .0) (pushed .push .ensures o [] (unassigned (decisionSizes (t .plant))) (holds-nothing o _) entry) in
     rw (← pushed .push .kept .0) (ran .run .ensures steps (enoughSteps (decisionSizes (t .plant))) (start-enough (decisionSizes (t .plant)) survivors _))
 
 pub from-root-spec : {M : Type 1} → statement M
 from-root-spec =
     tie.close
     (tie.spec
+    first-requires
     root-requires
     entry-of-requires
     push-requires

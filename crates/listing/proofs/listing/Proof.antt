@@ -1,4 +1,4 @@
--- `listing::call::listing` meets its contract. Assumes nothing.
+-- `listing` meets its contract. Assumes nothing.
 use borrow.Author.Needs.{needs}
 use Rattle.conflict.proofs.Given.{tabled-ready}
 use Rattle.listing.proofs.Starting.{lists-again, checked-survivors, checked-ends, broken-ends}
@@ -10,6 +10,9 @@ check-all-requires c κs = let t = c .before .before .before .before .before .be
 
 enum-known-m : tie.Need-enum-known-m
 enum-known-m c = search needs
+
+first-requires : tie.Need-first-requires
+first-requires c κs = search needs
 
 enum-known-m-2 : tie.Need-enum-known-m-2
 enum-known-m-2 c = search needs
@@ -27,7 +30,10 @@ same-length : tie.Need-same-length
 same-length c = search needs
 
 returns : tie.Need-returns
-returns c t = broken-ends t _ (rw (c .before .m .given .1) at (c .before .before .before .before .before .check-all .ensures .0 (t .plant) _ (t .tables .tabled)))
+returns c t =
+    let broken = c .before .before in
+    let offered = broken .before .before .before .before in
+    broken-ends t _ (c .first .ensures) (rw (broken .m .given .1) at (offered .check-all .ensures .0 (t .plant) _ (t .tables .tabled)))
 
 same-length-2 : tie.Need-same-length-2
 same-length-2 c = search needs
@@ -55,6 +61,7 @@ listing-spec =
     (tie.spec
     check-all-requires
     enum-known-m
+    first-requires
     enum-known-m-2
     from-root-requires
     same-length

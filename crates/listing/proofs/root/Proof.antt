@@ -1,4 +1,4 @@
--- `listing::call::root` meets its contract. Assumes nothing.
+-- `root` meets its contract. Assumes nothing.
 use borrow.Author.Needs.{needs}
 use Rattle.listing.proofs.Starting.{root-is}
 use Rattle.listing.proofs.root.Statement.{statement}
