@@ -7,5 +7,7 @@ pub mod Conflict
 pub mod Order
 pub mod Listing
 pub mod Calls
+pub mod Text
 pub mod Examples
 pub mod Edges
+pub mod TextExamples
