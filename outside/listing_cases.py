@@ -224,15 +224,19 @@ def words_bytes(words, width):
     return b"".join(word.to_bytes(width, "big") for word in words)
 
 
+def lent_checksum(lent):
+    """Of every lent word; `lent` are settings before a call, or its result."""
+    data = words_bytes(lent.codes, 8) + words_bytes(lent.costs, 4)
+    return fnv(data + words_bytes(lent.queue, 8) + words_bytes(lent.store, 8))
+
+
 def run_line(run):
     try:
         result = answer_run(run)
     except Refusal as refusal:
-        return f"refused {refusal.number}"
-    lent = words_bytes(result.codes, 8) + words_bytes(result.costs, 4)
-    lent += words_bytes(result.queue, 8) + words_bytes(result.store, 8)
+        return f"refused {refusal.number} {lent_checksum(settings_of(run))}"
     counts = " ".join(str(word) for word in result.words()[1:])
-    return f"{result.ending} {counts} {fnv(lent)}"
+    return f"{result.ending} {counts} {lent_checksum(result)}"
 
 
 def run_bytes(run):

@@ -83,10 +83,14 @@ def literal_damage(plant):
     return sheets
 
 
+def filler_bits(plant):
+    return -sum(width for _, width, _ in fields(plant)) % 8
+
+
 def end_damage(plant):
     """Filler bits set one by one, bytes appended, both, and a byte missing."""
     sheet = encode(plant)
-    filler = -sum(width for _, width, _ in fields(plant)) % 8
+    filler = filler_bits(plant)
     sheets = [sheet[:-1] + bytes([sheet[-1] | 1 << bit]) for bit in range(filler)]
     sheets += [spoilt + b"\0" for spoilt in sheets]
     sheets += [sheet + b"\0", sheet + b"\1", sheet + b"\0" * 44, sheet[:-1]]
@@ -126,16 +130,22 @@ def double_faults():
 
 
 def filler_plants():
-    """One plant for each number of filler bits, 0 to 7."""
+    """One plant with literals for each number of filler bits, 0 to 7."""
     found = {}
     for decisions in range(1, 5):
         for states in range(3):
-            for literals in range(8):
+            for literals in range(1, 9):
                 clauses = ((Literal(0, 0, 0),) * literals,)
                 plant = Plant(((7,),) * decisions, (1,) * states, clauses)
-                bits = sum(width for _, width, _ in fields(plant))
-                found.setdefault(-bits % 8, plant)
+                found.setdefault(filler_bits(plant), plant)
     return [found[filler] for filler in sorted(found)]
+
+
+def cut_literals():
+    """The sheet ends 6 to 10 bits into its last literal, whose variable is present, and then absent."""
+    for plant in filler_plants():
+        if 3 <= filler_bits(plant):
+            yield encode(plant)[:-1], with_field(plant, "variable", 63, -1)[:-1]
 
 
 def flipped(rng, sheet):
@@ -158,6 +168,7 @@ def sheet_cases():
         cases.append(encode(plant))
         cases += end_damage(plant)[::2]
     cases += end_damage(SMALL_PLANT) + end_damage(plants[2])
+    cases += [sheet for pair in cut_literals() for sheet in pair]
     cases += [longest[:11000], longest[:2000]]
     cases += [flipped(rng, rng.choice(whole[:2] + whole[60:])) for _ in range(40)]
     cases += [rng.randbytes(rng.randint(1, 60)) for _ in range(4)]

@@ -122,6 +122,13 @@ class Sheets(unittest.TestCase):
                 self.assertEqual(refusal, refusal_of(read, sheet))
                 self.assertEqual(5, refusal_of(read, sheet[:-1]))
 
+    def test_cut_literals(self):
+        """A variable is refused before its sign and value are read: 10, where they run past the end."""
+        pairs = list(sheet_cases.cut_literals())
+        self.assertEqual(5, len(pairs))
+        for present, absent in pairs:
+            self.assertEqual([5, 10], [refusal_of(read, present), refusal_of(read, absent)])
+
     def test_end(self):
         self.assertEqual(13, refusal_of(read, SMALL + b"\0"))
         self.assertEqual(12, refusal_of(read, SMALL[:-1] + b"\1"))
@@ -382,6 +389,7 @@ class Vectors(unittest.TestCase):
         numbers = {refusal_of(read, sheet) for sheet in cases}
         self.assertEqual({None, *range(5, 14)}, numbers)
         self.assertLessEqual({0, 11355, 11356, 11357}, set(map(len, cases)))
+        self.assertLessEqual({sheet for pair in sheet_cases.cut_literals() for sheet in pair}, set(cases))
 
     def test_calls(self):
         lines = {test_cases.call_line(call).split()[0] for call in test_cases.test_cases()}

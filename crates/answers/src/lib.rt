@@ -4,10 +4,10 @@ use printing::print_number;
 use printing::print_text;
 use refusal::Refusal;
 
-// Prints the number of a refusal, and ends the line.
-pub fn print_refusal(r: Refusal) {
+// Prints a refusal by its number, and the byte that follows it.
+pub fn print_refusal(r: Refusal, after: u8) {
     print_text(b"refused ");
-    print_number(refusal::number(r) as u64, b'\n');
+    print_number(refusal::number(r) as u64, after);
 }
 
 // Prints the name of an ending and a space.

@@ -1,3 +1,4 @@
 pub mod Listing
 pub mod Testing
 pub mod Reducing
+pub mod TwoExports

@@ -66,7 +66,7 @@ fn answer(sheet: &[u8]) {
         0,
         TRIALS,
     ) {
-        Answer::Refused(r) => print_refusal(r),
+        Answer::Refused(r) => print_refusal(r, b'\n'),
         Answer::Ran(e, c) => {
             print_states(&codes, &costs, c.listed);
             print_ending(e);

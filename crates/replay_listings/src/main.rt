@@ -73,13 +73,13 @@ fn answer(
     limit: u32,
 ) {
     match listing_call::list(sheet, k, codes, costs, queue, store, held, limit) {
-        Answer::Refused(r) => print_refusal(r),
+        Answer::Refused(r) => print_refusal(r, b' '),
         Answer::Ran(e, c) => {
             print_ending(e);
             print_counts(c);
-            print_hex8(checksum(codes, costs, queue, store), b'\n');
         }
     }
+    print_hex8(checksum(codes, costs, queue, store), b'\n');
 }
 
 // Reads the rest of a case, from the lengths of its buffers on, and answers it.

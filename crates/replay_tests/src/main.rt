@@ -22,7 +22,7 @@ fn tried(word: &[u8], trials: u32) {
 // Tests and prints the answer.
 fn test(sheet: &[u8], mask: u64, values: u64, limit: u32) {
     match conflict_call::test_call(sheet, mask, values, limit) {
-        TestAnswer::Refused(r) => print_refusal(r),
+        TestAnswer::Refused(r) => print_refusal(r, b'\n'),
         TestAnswer::Consistent(t) => tried(b"consistent ", t),
         TestAnswer::Inconsistent(t) => tried(b"inconsistent ", t),
         TestAnswer::Spent(t) => tried(b"spent ", t),
@@ -32,7 +32,7 @@ fn test(sheet: &[u8], mask: u64, values: u64, limit: u32) {
 // Reduces and prints the answer.
 fn reduce(sheet: &[u8], mask: u64, values: u64, limit: u32) {
     match conflict_call::reduce_call(sheet, mask, values, limit) {
-        ReduceAnswer::Refused(r) => print_refusal(r),
+        ReduceAnswer::Refused(r) => print_refusal(r, b'\n'),
         ReduceAnswer::None(t) => tried(b"none ", t),
         ReduceAnswer::Spent(t) => tried(b"spent ", t),
         ReduceAnswer::Conflict(m, v, t) => {

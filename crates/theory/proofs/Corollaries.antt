@@ -1,4 +1,4 @@
--- What the customer asked for in these words: two runs on one sheet, whatever else differs, never contradict each other. Assumes nothing.
+-- Two runs on one sheet, whatever else differs, never contradict each other: for any two lists that begin the sheet's whole set, and so for the model's calls. Assumes nothing.
 use mathlib.Core.Path.{_≡_, refl, sym, _∙_, ap, subst}
 use mathlib.Core.Logic.{_⊎_, inl, inr}
 use mathlib.Core.Bool.{Bool}
@@ -13,6 +13,7 @@ use Rattle.model.specs.Order.{Entry, product, wholeSet, orderOf}
 use Rattle.model.specs.Listing.{Ending, all}
 use Rattle.model.specs.Calls.{Answer, answered, Buffers, Counts, ran, runList, listingWith}
 use Rattle.theory.specs.Demand3.{Demand3, PromisedBy}
+use Rattle.theory.specs.TwoRuns.{ListOn, NoContradiction}
 use Rattle.theory.proofs.Demand3.{promised}
 
 -- of two lists that begin a third, the shorter begins the longer
@@ -34,6 +35,32 @@ begins-equal xs ys b h = go (b .0) (b .1)
     go : (rest : List _) → ys ≡ xs ++ rest → xs ≡ ys
     go [] e = sym (e ∙ append-nil xs)
     go (z ∷ zs) e = absurd (omega (arith, ap length e ∙ length-append xs (z ∷ zs)))
+
+-- two readings of one sheet give one plant
+one-plant : (sheet : List ℕ) (p q : Plant) (m n : ℕ) → readSheet edition1 sheet ≡ got p m → readSheet edition1 sheet ≡ got q n → p ≡ q
+one-plant sheet p q m n d e = cc
+
+module _ {sheet : List ℕ} where
+  module _ {m n : ℕ} {xs ys : List Entry} (a : ListOn sheet m xs) (b : ListOn sheet n ys) where
+    shorter : m ≤ n → Begins xs ys
+    shorter h = begins-both xs ys (wholeSet (a .plant) (orderOf (a .plant))) (a .begins)
+        (rw (one-plant sheet (a .plant) (b .plant) (a .end) (b .end) (a .says) (b .says)) (b .begins)) (omega (arith, a .long, b .long))
+
+    equal : m ≡ n → xs ≡ ys
+    equal h = begins-equal xs ys (shorter (omega arith)) (omega (arith, a .long, b .long))
+
+  -- lists that begin the whole set of one sheet
+  pub no-contradiction : {m n : ℕ} {xs ys : List Entry} → ListOn sheet m xs → ListOn sheet n ys → NoContradiction m n xs ys
+  no-contradiction {m} {n} a b = record {
+    one-begins = elim (decLe m n) [ yes h ↦ inl (shorter a b h) | no h ↦ inr (shorter b a (omega arith)) ];
+    shorter-begins = shorter a b;
+    equal-same = equal a b;
+  }
+
+  -- the list of a run that keeps the promise
+  pub promised-list : {k limit : ℕ} {before after : Buffers} {e : Ending} {c : Counts} {struck : Bool} → PromisedBy sheet k before limit (answered (ran e c)) after struck
+      → ListOn sheet (c .listed) (runList (c .listed) after)
+  promised-list h = record { plant = h .0; end = h .1; says = h .2; begins = h .3 .begins; long = h .3 .as-counted }
 
 -- a run: a listing call on this sheet, with its answer, its counts and its list
 pub record RunOn (sheet : List ℕ) : Type 0 where
@@ -60,49 +87,21 @@ module _ (sheet : List ℕ) where
   run-promise r = subst (λ (a : Answer). PromisedBy sheet (r .k) (r .before) (r .limit) a (afterRun r) (listingWith sheet (r .k) (r .before) (r .held) (r .limit) (r .resultShort) .struck))
       (r .answers) (promised sheet (r .k) (r .before) (r .held) (r .limit) (r .resultShort))
 
-  -- two readings of one sheet give one plant
-  one-plant : (p q : Plant) (m n : ℕ) → readSheet edition1 sheet ≡ got p m → readSheet edition1 sheet ≡ got q n → p ≡ q
-  one-plant p q m n d e = cc
-
   module _ (r s : RunOn sheet) where
-    -- both lists begin the one list that the sheet alone defines
-    both-begin : (p : Plant) × Begins (listOf r) (wholeSet p (orderOf p)) × Begins (listOf s) (wholeSet p (orderOf p))
-    both-begin =
-        let a = run-promise r in
-        let b = run-promise s in
-        (a .0, a .3 .begins, rw (one-plant (a .0) (b .0) (a .1) (b .1) (a .2) (b .2)) (b .3 .begins))
-
-    -- a list's length is its count
-    counted : length (listOf r) ≡ r .counts .listed
-    counted = run-promise r .3 .as-counted
-
-    counted′ : length (listOf s) ≡ s .counts .listed
-    counted′ = run-promise s .3 .as-counted
-
-    -- the shorter list begins the longer
-    pub shorter-begins : r .counts .listed ≤ s .counts .listed → Begins (listOf r) (listOf s)
-    shorter-begins h =
-        let b = both-begin in
-        begins-both (listOf r) (listOf s) (wholeSet (b .0) (orderOf (b .0))) (b .1) (b .2) (omega (arith, counted, counted′))
-
-    -- lists of equal length are the same
-    pub equal-same : r .counts .listed ≡ s .counts .listed → listOf r ≡ listOf s
-    equal-same h = begins-equal (listOf r) (listOf s) (shorter-begins (omega arith)) (omega (arith, counted, counted′))
+    -- two runs of the listing call
+    pub two-runs : NoContradiction (r .counts .listed) (s .counts .listed) (listOf r) (listOf s)
+    two-runs = no-contradiction (promised-list (run-promise r)) (promised-list (run-promise s))
 
     -- two runs that both end 'all' have one list
     pub all-same : r .ending ≡ all → s .ending ≡ all → listOf r ≡ listOf s
     all-same d e =
         let a = run-promise r in
         let b = run-promise s in
-        a .3 .all-whole d ∙ ap (λ (p : Plant). wholeSet p (orderOf p)) (one-plant (a .0) (b .0) (a .1) (b .1) (a .2) (b .2)) ∙ sym (b .3 .all-whole e)
-
-  -- of two lists one begins the other
-  pub one-begins : (r s : RunOn sheet) → Begins (listOf r) (listOf s) ⊎ Begins (listOf s) (listOf r)
-  one-begins r s = elim (decLe (r .counts .listed) (s .counts .listed)) [ yes h ↦ inl (shorter-begins r s h) | no h ↦ inr (shorter-begins s r (omega arith)) ]
+        a .3 .all-whole d ∙ ap (λ (p : Plant). wholeSet p (orderOf p)) (one-plant sheet (a .0) (b .0) (a .1) (b .1) (a .2) (b .2)) ∙ sym (b .3 .all-whole e)
 
   -- a queue with as many entries as the product of the sizes never ends 'full'
   pub never-full : (r : RunOn sheet) (p : Plant) (end : ℕ) → readSheet edition1 sheet ≡ got p end → product (decisionSizes p) ≤ length (r .before .queue) / 2 → r .ending ≡ Ending.full → ⊥
   never-full r p end e h f =
       let a = run-promise r in
-      let q = one-plant (a .0) p (a .1) end (a .2) e in
+      let q = one-plant sheet (a .0) p (a .1) end (a .2) e in
       omega (arith, rw q at (a .3 .full-small f))

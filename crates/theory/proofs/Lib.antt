@@ -22,6 +22,7 @@ pub mod ReductionTrials
 pub mod Run
 pub mod Search
 pub mod Sheet
+pub mod Refusals
 pub mod TableClauses
 pub mod Tables
 pub mod Test

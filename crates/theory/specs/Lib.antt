@@ -5,7 +5,9 @@ pub mod Digits
 pub mod Nodes
 pub mod Order
 pub mod Plant
+pub mod Refusals
 pub mod Run
 pub mod Search
 pub mod Tables
+pub mod TwoRuns
 pub mod Words
