@@ -1,13 +1,12 @@
 -- Two cabins: any two calls of `leading_list` on one sheet that returned 0, whatever else differs, never contradict each other. Assumes nothing.
-use mathlib.Core.Path.{_≡_, refl, ap, sym, _∙_}
-use mathlib.Core.Bool.{Bool}
+use mathlib.Core.Path.{_≡_, refl, ap, _∙_}
 use mathlib.Core.List.{List}
-use Prim.Native.Nat.{ℕ, _≤_}
+use Prim.Native.Nat.{ℕ}
 use native.Mathlib.Omega.{arith}
 use lib.Dec.{ltb}
 use lib.ListN.{length, getD}
 use Rattle.model.specs.Lists.{filled}
-use Rattle.model.specs.Calls.{Refusal, byHost, byAuthor, refusalNumber, refused, answered, Buffers, Answer, ran, unfinished, Called, runList, resultWords, listingWith, Exported, exportedOf}
+use Rattle.model.specs.Calls.{Refusal, byHost, byAuthor, refusalNumber, refused, answered, Answer, ran, unfinished, Called, resultWords, listingWith, Exported, exportedOf}
 use Rattle.theory.specs.Refusals.{RefusalNumber}
 use Rattle.theory.specs.Demand3.{PromisedBy}
 use Rattle.theory.specs.TwoRuns.{ListOn, NoContradiction}

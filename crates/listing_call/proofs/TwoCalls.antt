@@ -1,13 +1,8 @@
 -- Two cabins: any two calls of `list` on one sheet, whatever else differs, never contradict each other. Assumes nothing.
-use mathlib.Core.Path.{_≡_}
 use mathlib.Core.List.{List}
 use Prim.Native.Nat.{ℕ}
-use Rattle.model.specs.Calls.{listingCall}
-use Rattle.theory.specs.Demand3.{PromisedBy}
 use Rattle.theory.specs.TwoRuns.{ListOn, NoContradiction}
 use Rattle.theory.proofs.Corollaries.{no-contradiction, promised-list}
-use Rattle.listing.specs.declared.Answer.{Answer}
-use Rattle.listing.specs.Listing.{answerOf}
 use Rattle.listing_call.specs.TwoCalls.{ListCall, listOf}
 
 module _ {sheet : List ℕ} where
@@ -15,7 +10,7 @@ module _ {sheet : List ℕ} where
   pub call-list : (c : ListCall sheet) → ListOn sheet (c .counts .listed) (listOf c)
   call-list c =
       let promise = c .ensures .1 in
-      promised-list (rw (c .ran) at promise)
+      promised-list (rw (c .run) at promise)
 
   pub two-calls : (c d : ListCall sheet) → NoContradiction (c .counts .listed) (d .counts .listed) (listOf c) (listOf d)
   two-calls c d = no-contradiction (call-list c) (call-list d)

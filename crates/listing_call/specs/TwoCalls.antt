@@ -3,10 +3,9 @@ use mathlib.Core.Path.{_≡_}
 use mathlib.Core.List.{List}
 use Prim.Native.Nat.{ℕ}
 use Rattle.model.specs.Order.{Entry}
-use Rattle.model.specs.Calls.{Buffers, runList, listingCall}
-use Rattle.judge.specs.declared.Ending.{Ending}
+use Rattle.model.specs.Listing.{Ending}
+use Rattle.model.specs.Calls.{answered, Buffers, Counts, ran, runList, listingCall}
 use Rattle.listing.specs.declared.Answer.{Answer}
-use Rattle.listing.specs.declared.Counts.{Counts}
 use Rattle.listing.specs.Listing.{answerOf}
 use Rattle.listing_call.specs.Calls.{shown, Promises}
 
@@ -21,7 +20,7 @@ pub record ListCall (sheet : List ℕ) : Type 0 where
   pub ensures : (shown (listingCall sheet k before held limit) ≡ (answerOf answer, after)) × Promises sheet k before held limit answer after
   pub ending : Ending
   pub counts : Counts
-  pub ran : answer ≡ Answer.Ran ending counts
+  pub run : answerOf answer ≡ answered (ran ending counts)
 
 -- its list: the first codes with their costs, as many as listed says
 abbrev pub listOf : {sheet : List ℕ} → ListCall sheet → List Entry

@@ -1,6 +1,6 @@
 -- Two runs on one sheet, whatever else differs, never contradict each other: for any two lists that begin the sheet's whole set, and so for the model's calls. Assumes nothing.
 use mathlib.Core.Path.{_≡_, refl, sym, _∙_, ap, subst}
-use mathlib.Core.Logic.{_⊎_, inl, inr}
+use mathlib.Core.Logic.{inl, inr}
 use mathlib.Core.Bool.{Bool}
 use mathlib.Core.List.{List, [], _∷_, _++_, append-nil}
 use Prim.Native.Nat.{ℕ, _/_, _≤_}

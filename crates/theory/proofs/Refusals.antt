@@ -1,17 +1,17 @@
 -- Every refusal has one of document 01's numbers: the host's 1 to 4 before the sheet, the author's 5 to 13. Assumes nothing.
-use mathlib.Core.Path.{_≡_, refl, subst, sym}
-use mathlib.Core.Bool.{Bool, true, false, _&&_}
+use mathlib.Core.Path.{_≡_, refl, subst}
+use mathlib.Core.Bool.{Bool, true, false}
 use mathlib.Core.Option.{Option, none, some}
 use mathlib.Core.List.{List, [], _∷_, _++_, map}
-use Prim.Native.Nat.{ℕ, zero, suc, _+_, _-_, _*_, _%_, _≤_}
+use Prim.Native.Nat.{ℕ, zero, suc, _+_, _-_, _*_, _%_}
 use native.Mathlib.Omega.{arith}
 use lib.Dec.{ltb, leb, eqb}
 use lib.ListN.{length, getD}
 use Rattle.model.specs.Digits.{number}
-use Rattle.model.specs.Sheet.{Literal, Plant, Read, refused, got, bitAt, bitsAt, then, many, field, Edition, edition1, decisionsAllowed, readDecision, readState, readLiteral, readClause, readFiller, readEnd, readBody, readSheet}
+use Rattle.model.specs.Sheet.{Plant, Read, refused, got, bitAt, bitsAt, then, many, field, Edition, edition1, decisionsAllowed, readDecision, readState, readLiteral, readClause, readFiller, readEnd, readBody, readSheet}
 use Rattle.model.specs.Lists.{All}
 use Rattle.model.specs.Listing.{Next, ended, more}
-use Rattle.model.specs.Calls.{Refusal, byHost, byAuthor, Ground, ground, firstGiven, refused as turnedDown, Buffers, hostGrounds, calledOf, runOf, listingWith}
+use Rattle.model.specs.Calls.{Refusal, byHost, byAuthor, Ground, firstGiven, refused as turnedDown, Buffers, hostGrounds, calledOf, runOf, listingWith}
 use Rattle.theory.specs.Refusals.{HostNumber, AuthorNumber, RefusalNumber}
 
 -- ---- the author's
