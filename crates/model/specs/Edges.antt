@@ -1,21 +1,19 @@
--- Rows for what is easy to get wrong: offered entries, limits, sizes at their ends, and each refusal. Assumes nothing.
+-- Rows for runs: offered entries, limits, the store and the queue at their ends, conflicts in their order, and the largest sizes. Assumes nothing.
 use mathlib.Core.Path.{_≡_, refl}
-use mathlib.Core.Bool.{true, false}
-use mathlib.Core.Option.{none, some}
 use mathlib.Core.List.{List, [], _∷_, _++_}
 use Prim.Native.Nat.{ℕ}
-use lib.Dec.{ltb}
 use lib.ListN.{replicate}
 use Rattle.model.specs.Lists.{place, placeAll}
 use Rattle.model.specs.Digits.{number}
 use Rattle.model.specs.Sheet.{Plant, Read, edition1, readSheet}
-use Rattle.model.specs.Assignment.{Assignment}
-use Rattle.model.specs.Consistency.{Tested, consistent, inconsistent, test, holdsAt, literalHolds, clauseHolds, allHold}
-use Rattle.model.specs.Conflict.{Reduced, conflict, ReducedAlone, nothing, reduced, reduceAlone}
-use Rattle.model.specs.Order.{Order, costThenCode, orderOf, isConsistent, leadingStates, wholeSet}
-use Rattle.model.specs.Listing.{State, Ending, Next, ended, more, resolving, mostTested, spentInTest, judge, listing}
-use Rattle.model.specs.Calls.{byHost, byAuthor, Answered, refused, answered, Called, ran, wordGrounds, onWords, testCall, reduceCall, exportedOf, exportCall, Exported, testExport, reduceExport}
-use Rattle.model.specs.Examples.{Settings, Shown, refusal, shown, call, shows, plain, lent, tail, small, emptyClause, damaged, seventeen, both, selector, three}
+use Rattle.model.specs.Consistency.{holdsAt, literalHolds, clauseHolds, allHold}
+use Rattle.model.specs.Order.{costThenCode, orderOf, isConsistent, leadingStates, wholeSet}
+use Rattle.model.specs.Listing.{Ending, enough, all, full, Next, ended, more, listing}
+use Rattle.model.specs.Examples.{Settings, Row, _gives_, lists, strikes, call, answers, expected, plain, tail, small, both, selector, three, asP1}
+
+-- the mask of the clutch alone, and of every second variable like it
+abbrev pub second : ℕ
+second = 0x4000000000000000
 
 -- ---- more sheets
 
@@ -35,94 +33,213 @@ cheaperFirst = 0x01 ∷ 0x10 ∷ 0x00 ∷ 0x00 ∷ 0x80 ∷ 0x00 ∷ 0x00 ∷ 0x
 unfoldable pub oneLeft : List ℕ
 oneLeft = 0x01 ∷ 0x08 ∷ 0x00 ∷ 0x11 ∷ 0x00 ∷ 0x00 ∷ 0x00 ∷ 0x00 ∷ 0x00 ∷ 0x00 ∷ 0x08 ∷ 0x11 ∷ 0x10 ∷ 0x24 ∷ []
 
+-- one decision variable with costs 5, 4, 6; no clauses
+unfoldable pub oneVariable : List ℕ
+oneVariable = 0x01 ∷ 0x08 ∷ 0x00 ∷ 0x01 ∷ 0x00 ∷ 0x02 ∷ 0x80 ∷ 0x02 ∷ 0x00 ∷ 0x03 ∷ 0x00 ∷ []
+
+-- costs 0, 3 and 0, 2, 0; the second is 0, the first is not 0
+unfoldable pub oneOfSix : List ℕ
+oneOfSix = 0x01 ∷ 0x10 ∷ 0x00 ∷ 0x10 ∷ 0x80 ∷ 0x00 ∷ 0x00 ∷ 0x01 ∷ 0x90 ∷ 0x00 ∷ 0x00 ∷ 0x00 ∷ 0x10 ∷ 0x00 ∷ 0x00 ∷ 0x82 ∷ 0x01 ∷ 0x02 ∷ 0x00 ∷ []
+
+-- costs 2, 3 and 2, 3, 0; the second is not 1, the first is 1
+unfoldable pub twoOfSix : List ℕ
+twoOfSix = 0x01 ∷ 0x10 ∷ 0x00 ∷ 0x10 ∷ 0x80 ∷ 0x01 ∷ 0x00 ∷ 0x01 ∷ 0x90 ∷ 0x00 ∷ 0x10 ∷ 0x00 ∷ 0x18 ∷ 0x00 ∷ 0x00 ∷ 0x83 ∷ 0x11 ∷ 0x00 ∷ 0x20 ∷ []
+
+-- costs 2, 2 and 1, 1, 0; the second is 0
+unfoldable pub tied : List ℕ
+tied = 0x01 ∷ 0x10 ∷ 0x00 ∷ 0x08 ∷ 0x80 ∷ 0x01 ∷ 0x00 ∷ 0x01 ∷ 0x10 ∷ 0x00 ∷ 0x08 ∷ 0x00 ∷ 0x08 ∷ 0x00 ∷ 0x00 ∷ 0x82 ∷ 0x00 ∷ []
+
+-- costs 1, 2 and 2, 2; the first is 1
+unfoldable pub firstIsOne : List ℕ
+firstIsOne = 0x01 ∷ 0x10 ∷ 0x00 ∷ 0x08 ∷ 0x80 ∷ 0x00 ∷ 0x80 ∷ 0x01 ∷ 0x08 ∷ 0x00 ∷ 0x10 ∷ 0x00 ∷ 0x10 ∷ 0x80 ∷ 0x10 ∷ []
+
+-- costs 0, 2, 0 and 1; the second, which has one value, is not 0
+unfoldable pub nothingHolds : List ℕ
+nothingHolds = 0x01 ∷ 0x10 ∷ 0x00 ∷ 0x09 ∷ 0x00 ∷ 0x00 ∷ 0x00 ∷ 0x01 ∷ 0x00 ∷ 0x00 ∷ 0x00 ∷ 0x00 ∷ 0x08 ∷ 0x83 ∷ 0x00 ∷ []
+
+-- costs 0, 1; the variable is 1; the sheet ends on a byte's end, with no filler
+unfoldable pub noFiller : List ℕ
+noFiller = 0x01 ∷ 0x08 ∷ 0x00 ∷ 0x08 ∷ 0x80 ∷ 0x00 ∷ 0x00 ∷ 0x00 ∷ 0x88 ∷ 0x01 ∷ []
+
+-- sixteen decision variables of one value, with cost 1 and the last with cost 65,535
+unfoldable pub sixteenVariables : List ℕ
+sixteenVariables =
+    0x01 ∷ 0x80 ∷ 0x00 ∷ 0x00 ∷ 0x00 ∷ 0x00 ∷ 0x80 ∷ 0x00 ∷ 0x08 ∷ 0x00 ∷ 0x00 ∷ 0x80 ∷ 0x00 ∷ 0x08 ∷ 0x00 ∷ 0x00 ∷ 0x80 ∷ 0x00 ∷ 0x08 ∷ 0x00
+    ∷ 0x00 ∷ 0x80 ∷ 0x00 ∷ 0x08 ∷ 0x00 ∷ 0x00 ∷ 0x80 ∷ 0x00 ∷ 0x08 ∷ 0x00 ∷ 0x00 ∷ 0x80 ∷ 0x00 ∷ 0x08 ∷ 0x00 ∷ 0x00 ∷ 0x80 ∷ 0x00 ∷ 0x08 ∷ 0x00
+    ∷ 0x00 ∷ 0x87 ∷ 0xff ∷ 0xf8 ∷ []
+
+-- a decision variable of sixteen values, with costs 15 down to 0; it is not 15
+unfoldable pub sixteenValues : List ℕ
+sixteenValues =
+    0x01 ∷ 0x08 ∷ 0x00 ∷ 0x0f ∷ 0x80 ∷ 0x07 ∷ 0x80 ∷ 0x07 ∷ 0x00 ∷ 0x06 ∷ 0x80 ∷ 0x06 ∷ 0x00 ∷ 0x05 ∷ 0x80 ∷ 0x05 ∷ 0x00 ∷ 0x04 ∷ 0x80 ∷ 0x04
+    ∷ 0x00 ∷ 0x03 ∷ 0x80 ∷ 0x03 ∷ 0x00 ∷ 0x02 ∷ 0x80 ∷ 0x02 ∷ 0x00 ∷ 0x01 ∷ 0x80 ∷ 0x01 ∷ 0x00 ∷ 0x00 ∷ 0x80 ∷ 0x00 ∷ 0x08 ∷ 0x1f ∷ []
+
+-- a decision variable of one value and 32 state variables of one value; the last of them is 0
+unfoldable pub thirtyTwoStates : List ℕ
+thirtyTwoStates = 0x01 ∷ 0x0c ∷ 0x00 ∷ 0x08 ∷ replicate 18 0x00 ++ (0x0c ∷ 0x00 ∷ [])
+
+-- a decision variable of one value and a state variable of sixteen; the state is 15
+unfoldable pub stateOfSixteen : List ℕ
+stateOfSixteen = 0x01 ∷ 0x08 ∷ 0x20 ∷ 0x08 ∷ 0x00 ∷ 0x00 ∷ 0x78 ∷ 0x82 ∷ 0xf0 ∷ []
+
+-- costs 0, 1; a clause of fifteen literals, all but the last of them the same
+unfoldable pub fifteenLiterals : List ℕ
+fifteenLiterals = 0x01 ∷ 0x08 ∷ 0x00 ∷ 0x08 ∷ 0x80 ∷ 0x00 ∷ 0x00 ∷ 0x00 ∷ 0xf8 ∷ replicate 20 0x00 ++ (0x40 ∷ [])
+
 -- sixteen decision variables of sixteen values, all at cost 0
 unfoldable pub wide : Plant
 wide = record { costs = replicate 16 (replicate 16 0); states = []; clauses = [] }
 
--- the small plant with 33 state variables, 513 clauses, an absent variable, a value outside its domain, one byte more, and the edition 2
-unfoldable pub thirtyThree : List ℕ
-thirtyThree = 0x01 ∷ 0x14 ∷ 0x30 ∷ 0x08 ∷ []
+-- ---- offered entries
 
-unfoldable pub manyClauses : List ℕ
-manyClauses = 0x01 ∷ 0x10 ∷ 0x30 ∷ 0x08 ∷ []
-
-unfoldable pub absentVariable : List ℕ
-absentVariable = 0x01 ∷ 0x10 ∷ 0x20 ∷ 0x10 ∷ 0x80 ∷ 0x00 ∷ 0x00 ∷ 0x01 ∷ 0x88 ∷ 0x00 ∷ 0x00 ∷ 0x00 ∷ 0x18 ∷ 0x98 ∷ 0x10 ∷ 0x06 ∷ 0x01 ∷ 0x84 ∷ 0x42 ∷ 0x00 ∷ []
-
-unfoldable pub valueOutside : List ℕ
-valueOutside = 0x01 ∷ 0x10 ∷ 0x20 ∷ 0x10 ∷ 0x80 ∷ 0x00 ∷ 0x00 ∷ 0x01 ∷ 0x88 ∷ 0x00 ∷ 0x00 ∷ 0x00 ∷ 0x18 ∷ 0x98 ∷ 0x12 ∷ 0x06 ∷ 0x01 ∷ 0x04 ∷ 0x42 ∷ 0x00 ∷ []
-
-unfoldable pub longer : List ℕ
-longer = small ++ (0x00 ∷ [])
-
-unfoldable pub fillerSet : List ℕ
-fillerSet = 0x01 ∷ 0x10 ∷ 0x20 ∷ 0x10 ∷ tail ++ (0x01 ∷ [])
-
-unfoldable pub edition2 : List ℕ
-edition2 = 0x02 ∷ 0x10 ∷ 0x20 ∷ 0x10 ∷ tail ++ (0x00 ∷ [])
-
--- the edition is wrong, and 17 decision variables
-unfoldable pub edition2And17 : List ℕ
-edition2And17 = 0x02 ∷ 0x88 ∷ 0x20 ∷ 0x10 ∷ tail ++ (0x00 ∷ [])
-
--- ---- runs
-
--- the offered entries are: a nonzero unused nibble; a mask bit beyond D; a value outside its domain; the empty assignment on an
--- unsatisfiable plant, so that the root has a conflict with no unassigned member; two equal ones; two that leave one child of the root,
--- for which a queue of one entry has room
-unfoldable pub offers : List Shown
+-- step 1: what is dropped, what survives and where it stands
+unfoldable pub offers : List Row
 offers =
-    shows (plain small 16 4096 64 (0 ∷ 1 ∷ []) 1000000)
-    ∷ shows (plain small 16 4096 64 (0x2000000000000000 ∷ 0 ∷ []) 1000000)
-    ∷ shows (plain small 16 4096 64 (selector ∷ 0x2000000000000000 ∷ []) 1000000)
-    ∷ shows (plain unsatisfiable 16 4096 64 (0 ∷ 0 ∷ []) 1000000)
-    ∷ shows (plain small 16 4096 64 (both ∷ 0 ∷ both ∷ 0 ∷ []) 1000000)
-    ∷ shows (plain oneLeft 16 1 64 (selector ∷ 0x1000000000000000 ∷ selector ∷ 0x2000000000000000 ∷ []) 1000000)
+    -- dropped, not well formed: a nonzero nibble of an absent variable, the last and the first; of an unassigned one
+    plain small 16 8 4 (0 ∷ 1 ∷ []) 1000 gives asP1
+    ∷ plain small 16 8 4 (0 ∷ 0x0010000000000000 ∷ []) 1000 gives asP1
+    ∷ plain small 16 8 4 (selector ∷ 0x0100000000000000 ∷ []) 1000 gives asP1
+    -- dropped: a mask bit beyond D, the first, the seventeenth from the top, the last; a value outside its domain
+    ∷ plain small 16 8 4 (0x2000000000000000 ∷ 0 ∷ []) 1000 gives asP1
+    ∷ plain small 16 8 4 (0xc000800000000000 ∷ 0 ∷ []) 1000 gives asP1
+    ∷ plain small 16 8 4 (0xc000000000000001 ∷ 0 ∷ []) 1000 gives asP1
+    ∷ plain small 16 8 4 (selector ∷ 0x2000000000000000 ∷ []) 1000 gives asP1
+    -- one that is dropped ends nothing: not well formed, then a conflict; consistent, then a conflict
+    ∷ plain small 16 8 4 (0 ∷ 1 ∷ both ∷ 0 ∷ []) 1000 gives lists all three (3 ∷ 3 ∷ 6 ∷ []) (both ∷ 0 ∷ []) 3 0 0 5
+    ∷ plain small 16 8 4 (selector ∷ 0x1000000000000000 ∷ both ∷ 0 ∷ []) 1000 gives lists all three (3 ∷ 3 ∷ 6 ∷ []) (both ∷ 0 ∷ []) 3 0 0 7
+    -- two equal ones are both kept, in a store with no room for more
+    ∷ plain small 16 8 2 (both ∷ 0 ∷ both ∷ 0 ∷ []) 1000 gives lists all three (3 ∷ 3 ∷ 6 ∷ []) (both ∷ 0 ∷ both ∷ 0 ∷ []) 3 0 0 7
+    -- the empty assignment on an unsatisfiable plant: the root has a conflict with no unassigned member
+    ∷ plain unsatisfiable 16 8 4 (0 ∷ 0 ∷ []) 1000 gives lists all [] [] (0 ∷ 0 ∷ []) 0 0 0 2
+    -- two that leave one child of the root, for which a queue of one entry has room
+    ∷ plain oneLeft 16 1 4 (selector ∷ 0x1000000000000000 ∷ selector ∷ 0x2000000000000000 ∷ []) 1000
+    gives lists all (0 ∷ []) (0 ∷ []) (selector ∷ 0x1000000000000000 ∷ selector ∷ 0x2000000000000000 ∷ []) 1 0 0 0
+    -- survivors close up in their order, unreduced, and what is learned comes after: a conflict, one not well formed, a conflict, one consistent, a conflict
+    ∷ plain oneOfSix 16 8 5 (second ∷ 0x0100000000000000 ∷ 0 ∷ 1 ∷ selector ∷ 0 ∷ selector ∷ 0x1000000000000000 ∷ both ∷ 0x0200000000000000 ∷ []) 1000
+    gives lists all (0x1000000000000000 ∷ []) (3 ∷ [])
+    (second ∷ 0x0100000000000000 ∷ selector ∷ 0 ∷ both ∷ 0x0200000000000000 ∷ second ∷ 0x0200000000000000 ∷ []) 2 1 0 4
     ∷ []
 
-pub offers-are : offers ≡
-    shown 2 three (3 ∷ 3 ∷ 6 ∷ []) 4 1 0 15
-    ∷ shown 2 three (3 ∷ 3 ∷ 6 ∷ []) 4 1 0 15
-    ∷ shown 2 three (3 ∷ 3 ∷ 6 ∷ []) 4 1 0 15
-    ∷ shown 2 [] [] 0 0 0 2
-    ∷ shown 2 three (3 ∷ 3 ∷ 6 ∷ []) 3 0 0 7
-    ∷ shown 2 (0 ∷ []) (0 ∷ []) 1 0 0 0
-    ∷ []
-unfolding offers shows plain tail small unsatisfiable oneLeft three
+pub offers-are : answers offers ≡ expected offers
+unfolding offers answers expected plain tail small unsatisfiable oneLeft oneOfSix three asP1
 offers-are = refl
 
--- the limit strikes in step 1 at its first trial and at its second, in step 7's first test, in its second, and in a reduction
-unfoldable pub limits : List Shown
-limits =
-    shows (plain small 16 4096 64 (both ∷ 0 ∷ []) 0)
-    ∷ shows (plain small 16 4096 64 (both ∷ 0 ∷ []) 1)
-    ∷ shows (plain small 16 4096 64 [] 0)
-    ∷ shows (plain small 16 4096 64 [] 12)
-    ∷ shows (plain small 16 4096 64 [] 2)
+-- the small plant with these words at the store's start, of which so many entries are held
+unfoldable pub holding : List ℕ → ℕ → Settings
+holding offered held = record {
+  sheet = small;
+  k = 16;
+  codes = 16;
+  costs = 16;
+  queue = 16;
+  store = 8;
+  offered = offered;
+  held = held;
+  limit = 1000;
+}
+
+-- entries behind those held are not taken, and are overwritten: a conflict with none held; behind a consistent one; behind a conflict
+unfoldable pub behind : List Row
+behind =
+    holding (both ∷ 0 ∷ []) 0 gives asP1
+    ∷ holding (selector ∷ 0x1000000000000000 ∷ both ∷ 0 ∷ []) 1 gives lists all three (3 ∷ 3 ∷ 6 ∷ []) (both ∷ 0 ∷ []) 4 1 0 17
+    ∷ holding (both ∷ 0 ∷ both ∷ 0 ∷ []) 1 gives lists all three (3 ∷ 3 ∷ 6 ∷ []) (both ∷ 0 ∷ []) 3 0 0 5
     ∷ []
 
-pub limits-are : limits ≡
-    shown 4 [] [] 0 0 0 0
-    ∷ shown 4 [] [] 0 0 0 1
-    ∷ shown 4 [] [] 0 0 0 0
-    ∷ shown 4 [] [] 1 1 0 12
-    ∷ shown 4 [] [] 1 0 0 2
+pub behind-are : answers behind ≡ expected behind
+unfolding behind answers expected holding tail small three asP1
+behind-are = refl
+
+-- ---- limits
+
+unfoldable pub limits : List Row
+limits =
+    -- in step 1, at the first trial of the first entry, at its second
+    plain small 16 8 4 (both ∷ 0 ∷ []) 0 gives lists Ending.spent [] [] [] 0 0 0 0
+    ∷ plain small 16 8 4 (both ∷ 0 ∷ []) 1 gives lists Ending.spent [] [] [] 0 0 0 1
+    -- at the first trial of the second entry, at its second: the survivor before it is kept, and it is not
+    ∷ plain small 16 8 4 (both ∷ 0 ∷ both ∷ 0 ∷ []) 2 gives lists Ending.spent [] [] (both ∷ 0 ∷ []) 0 0 0 2
+    ∷ plain small 16 8 4 (both ∷ 0 ∷ both ∷ 0 ∷ []) 3 gives lists Ending.spent [] [] (both ∷ 0 ∷ []) 0 0 0 3
+    -- no entry after it is looked at, nor a node, though both need no trial
+    ∷ plain oneOfSix 16 8 4 (selector ∷ 0x1000000000000000 ∷ selector ∷ 0 ∷ []) 0 gives lists Ending.spent [] [] [] 0 0 0 0
+    -- in step 7's first test, at its first trial and at its second; in its second test, with nothing listed; in its third
+    ∷ plain small 16 8 4 [] 0 gives lists Ending.spent [] [] [] 0 0 0 0
+    ∷ plain small 16 8 4 [] 1 gives lists Ending.spent [] [] [] 0 0 0 1
+    ∷ plain small 16 8 4 [] 12 gives lists Ending.spent [] [] (both ∷ 0 ∷ []) 1 1 0 12
+    ∷ plain small 16 8 4 [] 13 gives lists Ending.spent (0x0100000000000000 ∷ []) (3 ∷ []) (both ∷ 0 ∷ []) 2 1 0 13
+    -- in a reduction, at its first trial; in a later one, at its second trial, with a state listed and a conflict learned
+    ∷ plain small 16 8 4 [] 2 gives strikes [] [] [] 1 0 0 2
+    ∷ plain oneOfSix 16 8 4 [] 3 gives strikes (0x1000000000000000 ∷ []) (3 ∷ []) (selector ∷ 0 ∷ []) 3 1 0 3
+    -- a test that makes no trial is made at any limit
+    ∷ plain oneOfSix 16 8 0 [] 0 gives lists all (0x1000000000000000 ∷ []) (3 ∷ []) [] 6 0 5 0
     ∷ []
-unfolding limits shows plain tail small three
+
+pub limits-are : answers limits ≡ expected limits
+unfolding limits answers expected plain tail small oneOfSix three
 limits-are = refl
 
--- a one-value domain; a queued node comes before a child generated later
-unfoldable pub shapes : List Shown
-shapes =
-    shows (plain oneValue 16 4096 64 [] 1000000)
-    ∷ shows (plain cheaperFirst 16 4096 64 [] 1000000)
+-- ---- the store and the queue
+
+unfoldable pub rooms : List Row
+rooms =
+    -- no room in the store: nothing is reduced, no node leaves the queue; room for one; for two of three; for all
+    plain small 16 8 0 [] 1000 gives lists all three (3 ∷ 3 ∷ 6 ∷ []) [] 4 0 1 5
+    ∷ plain twoOfSix 16 8 0 [] 1000 gives lists all (0x1200000000000000 ∷ 0x1000000000000000 ∷ []) (3 ∷ 5 ∷ []) [] 6 0 4 0
+    ∷ plain twoOfSix 16 8 1 [] 1000 gives lists all (0x1200000000000000 ∷ 0x1000000000000000 ∷ []) (3 ∷ 5 ∷ []) (selector ∷ 0 ∷ []) 4 1 1 2
+    ∷ plain oneOfSix 16 8 2 [] 1000 gives lists all (0x1000000000000000 ∷ []) (3 ∷ []) (selector ∷ 0 ∷ second ∷ 0x0200000000000000 ∷ []) 4 2 1 5
+    ∷ plain oneOfSix 16 8 3 [] 1000
+    gives lists all (0x1000000000000000 ∷ []) (3 ∷ []) (selector ∷ 0 ∷ second ∷ 0x0200000000000000 ∷ second ∷ 0x0100000000000000 ∷ []) 4 3 0 8
+    -- a queue of four entries has room only because the nodes that manifest the learned conflict are removed from it; of three it has none
+    ∷ plain twoOfSix 16 4 4 [] 1000
+    gives lists all (0x1200000000000000 ∷ 0x1000000000000000 ∷ []) (3 ∷ 5 ∷ []) (selector ∷ 0 ∷ second ∷ 0x0100000000000000 ∷ []) 4 2 0 5
+    ∷ plain twoOfSix 16 3 4 [] 1000 gives lists full [] [] [] 0 0 0 0
+    -- the first unresolved conflict is taken: of the second's children there would be two, for a queue of one entry
+    ∷ plain nothingHolds 16 1 3 (both ∷ 0x2000000000000000 ∷ selector ∷ 0 ∷ []) 1000
+    gives lists all [] [] (both ∷ 0x2000000000000000 ∷ selector ∷ 0 ∷ 0 ∷ 0 ∷ []) 1 1 0 7
+    -- its members from the lowest up: from the highest down the queue of two entries would be full
+    ∷ plain firstIsOne 16 2 2 (both ∷ 0 ∷ []) 1000 gives lists all (0x1000000000000000 ∷ 0x1100000000000000 ∷ []) (4 ∷ 4 ∷ []) (both ∷ 0 ∷ selector ∷ 0 ∷ []) 3 1 0 2
     ∷ []
 
-pub shapes-are : shapes ≡
-    shown 2 (0x0100000000000000 ∷ 0 ∷ []) (1 ∷ 2 ∷ []) 2 0 0 0
-    ∷ shown 2 (0 ∷ 0x1000000000000000 ∷ 0x0100000000000000 ∷ 0x1100000000000000 ∷ []) (0 ∷ 1 ∷ 5 ∷ 6 ∷ []) 4 0 0 0
+pub rooms-are : answers rooms ≡ expected rooms
+unfolding rooms answers expected plain tail small oneOfSix twoOfSix nothingHolds firstIsOne three
+rooms-are = refl
+
+-- ---- order and sizes
+
+unfoldable pub shapes : List Row
+shapes =
+    -- a one-value domain
+    plain oneValue 16 8 4 [] 1000 gives lists all (0x0100000000000000 ∷ 0 ∷ []) (1 ∷ 2 ∷ []) [] 2 0 0 0
+    -- a queued node comes before a child generated later
+    ∷ plain cheaperFirst 16 8 4 [] 1000
+    gives lists all (0 ∷ 0x1000000000000000 ∷ 0x0100000000000000 ∷ 0x1100000000000000 ∷ []) (0 ∷ 1 ∷ 5 ∷ 6 ∷ []) [] 4 0 0 0
+    -- one variable, listed to the end: the run takes as many steps as a sheet allows
+    ∷ plain oneVariable 16 8 4 [] 1000 gives lists all (0x1000000000000000 ∷ 0 ∷ 0x2000000000000000 ∷ []) (4 ∷ 5 ∷ 6 ∷ []) [] 3 0 0 0
+    -- the lowest of two cheapest values is the better: of the nodes {first = 0} and {second = 1} the former
+    ∷ plain tied 2 3 2 (second ∷ 0x0200000000000000 ∷ []) 1000
+    gives lists enough (0 ∷ 0x1000000000000000 ∷ []) (3 ∷ 3 ∷ []) (second ∷ 0x0200000000000000 ∷ second ∷ 0x0100000000000000 ∷ []) 3 1 0 2
+    -- a sheet without filler
+    ∷ plain noFiller 2 2 1 [] 1000 gives lists all (0x1000000000000000 ∷ []) (1 ∷ []) (selector ∷ 0 ∷ []) 2 1 0 2
+    -- D 16, and a cost of 16 bits
+    ∷ plain sixteenVariables 2 1 0 [] 1000 gives lists all (0 ∷ []) (65550 ∷ []) [] 1 0 0 0
+    -- S 32, and the variable 32
+    ∷ plain thirtyTwoStates 2 1 0 [] 1000 gives lists all (0 ∷ []) (0 ∷ []) [] 1 0 0 32
+    -- a state variable of sixteen values
+    ∷ plain stateOfSixteen 2 1 0 [] 1000 gives lists all (0 ∷ []) (0 ∷ []) [] 1 0 0 16
+    -- a clause of fifteen literals
+    ∷ plain fifteenLiterals 2 2 1 [] 1000 gives lists enough (0 ∷ 0x1000000000000000 ∷ []) (0 ∷ 1 ∷ []) [] 2 0 0 0
+    -- k 4,096, with a queue and a store of 8,192 words, and a decision variable of sixteen values
+    ∷ plain sixteenValues 4096 4096 4096 [] 1000
+    gives lists all
+    (0xe000000000000000 ∷ 0xd000000000000000 ∷ 0xc000000000000000 ∷ 0xb000000000000000 ∷ 0xa000000000000000 ∷ 0x9000000000000000
+    ∷ 0x8000000000000000 ∷ 0x7000000000000000 ∷ 0x6000000000000000 ∷ 0x5000000000000000 ∷ 0x4000000000000000 ∷ 0x3000000000000000
+    ∷ 0x2000000000000000 ∷ 0x1000000000000000 ∷ 0 ∷ [])
+    (1 ∷ 2 ∷ 3 ∷ 4 ∷ 5 ∷ 6 ∷ 7 ∷ 8 ∷ 9 ∷ 10 ∷ 11 ∷ 12 ∷ 13 ∷ 14 ∷ 15 ∷ [])
+    (selector ∷ 0xf000000000000000 ∷ []) 16 1 0 1
     ∷ []
-unfolding shapes shows plain oneValue cheaperFirst
+
+pub shapes-are : answers shapes ≡ expected shapes
+unfolding shapes answers expected plain oneValue cheaperFirst oneVariable tied noFiller sixteenVariables thirtyTwoStates stateOfSixteen fifteenLiterals sixteenValues
 shapes-are = refl
 
 -- what is listed, of sixteen variables of sixteen values with k 3
@@ -138,242 +255,8 @@ pub wide-run : wideRun ≡ replicate 16 0 ∷ (replicate 15 0 ++ (1 ∷ [])) ∷
 unfolding wideRun call wide listedOf
 wide-run = refl
 
--- every lent word after a run: codes and costs beyond listed are unchanged, the queue is zero, the store holds the learned conflict and zeros
-unfoldable pub lentAfter : Called
-lentAfter = call (record { sheet = small; k = 4; codes = 5; costs = 4; queue = 6; store = 4; offered = []; held = 0; limit = 1000 })
+-- ---- the small plant, and its whole set
 
-pub lent-after : lentAfter ≡ record {
-  answer = answered (ran Ending.all (record { listed = 3; tested = 4; learned = 1; unkept = 0; trials = 15 }));
-  after = record { codes = three ++ (7 ∷ 7 ∷ []); costs = 3 ∷ 3 ∷ 6 ∷ 7 ∷ []; queue = replicate 6 0; store = both ∷ 0 ∷ 0 ∷ 0 ∷ [] };
-  struck = false;
-}
-unfolding lentAfter call tail small three
-lent-after = refl
-
--- the limit strikes inside a reduction: one test is counted whose conflict was not learned
-unfoldable pub struckCall : Called
-struckCall = call (record { sheet = small; k = 1; codes = 1; costs = 1; queue = 6; store = 2; offered = []; held = 0; limit = 5 })
-
-pub struck-call : struckCall ≡ record {
-  answer = answered (ran Ending.spent (record { listed = 0; tested = 1; learned = 0; unkept = 0; trials = 5 }));
-  after = record { codes = 7 ∷ []; costs = 7 ∷ []; queue = replicate 6 0; store = 0 ∷ 0 ∷ [] };
-  struck = true;
-}
-unfolding struckCall call tail small
-struck-call = refl
-
--- and in the export: the six result words, and one beyond them that is unchanged
-unfoldable pub exported : Exported
-unfolding call
-exported = exportCall small 4 (lent (record { sheet = small; k = 4; codes = 4; costs = 4; queue = 6; store = 2; offered = []; held = 0; limit = 1000 })) 0 1000 (replicate 7 9)
-
-pub exported-is : exported ≡ record {
-  returned = 0;
-  after = record { codes = three ++ (7 ∷ []); costs = 3 ∷ 3 ∷ 6 ∷ 7 ∷ []; queue = replicate 6 0; store = both ∷ 0 ∷ [] };
-  result = 2 ∷ 3 ∷ 4 ∷ 1 ∷ 0 ∷ 15 ∷ 9 ∷ [];
-}
-unfolding exported call tail small three exportCall exportedOf
-exported-is = refl
-
--- ---- refusals
-
--- settings of the small plant with these lengths of codes, costs, queue and store
-unfoldable pub lengths : List ℕ → ℕ → ℕ → ℕ → ℕ → ℕ → ℕ → Settings
-lengths sheet k codes costs queue store held = record {
-  sheet = sheet;
-  k = k;
-  codes = codes;
-  costs = costs;
-  queue = queue;
-  store = store;
-  offered = [];
-  held = held;
-  limit = 1000;
-}
-
--- 1 to 4, each ground of its own
-unfoldable pub hosts : List Shown
-hosts =
-    shows (lengths small 0 16 16 8 8 0)
-    ∷ shows (lengths small 4097 4097 4097 8 8 0)
-    ∷ shows (lengths small 16 15 16 8 8 0)
-    ∷ shows (lengths small 16 16 15 8 8 0)
-    ∷ shows (lengths small 16 16 16 7 8 0)
-    ∷ shows (lengths small 16 16 16 0 8 0)
-    ∷ shows (lengths small 16 16 16 8194 8 0)
-    ∷ shows (lengths small 16 16 16 8 7 0)
-    ∷ shows (lengths small 16 16 16 8 8194 0)
-    ∷ shows (lengths small 16 16 16 8 8 5)
-    ∷ []
-
-pub hosts-are : hosts ≡
-    refusal 1 ∷ refusal 1 ∷ refusal 2 ∷ refusal 2 ∷ refusal 3 ∷ refusal 3 ∷ refusal 3 ∷ refusal 4 ∷ refusal 4 ∷ refusal 4 ∷ []
-unfolding hosts shows lengths tail small
-hosts-are = refl
-
--- 5 to 13, in order
-unfoldable pub authors : List Shown
-authors =
-    shows (plain tail 16 8 8 [] 1000)
-    ∷ shows (plain (0x01 ∷ 0x10 ∷ 0x20 ∷ 0x10 ∷ tail) 16 8 8 [] 1000)
-    ∷ shows (plain edition2 16 8 8 [] 1000)
-    ∷ shows (plain seventeen 16 8 8 [] 1000)
-    ∷ shows (plain thirtyThree 16 8 8 [] 1000)
-    ∷ shows (plain manyClauses 16 8 8 [] 1000)
-    ∷ shows (plain absentVariable 16 8 8 [] 1000)
-    ∷ shows (plain valueOutside 16 8 8 [] 1000)
-    ∷ shows (plain fillerSet 16 8 8 [] 1000)
-    ∷ shows (plain longer 16 8 8 [] 1000)
-    ∷ []
-
-pub authors-are : authors ≡
-    refusal 6 ∷ refusal 5 ∷ refusal 6 ∷ refusal 7 ∷ refusal 8 ∷ refusal 9 ∷ refusal 10 ∷ refusal 11 ∷ refusal 12 ∷ refusal 13 ∷ []
-unfolding authors shows plain tail small edition2 seventeen thirtyThree manyClauses absentVariable valueOutside fillerSet longer
-authors-are = refl
-
--- two grounds at once: k and codes; codes and queue; queue and store; store and the sheet; edition and D; the end before D's rule; filler and bytes after it
-unfoldable pub doubles : List Shown
-doubles =
-    shows (lengths small 0 0 0 8 8 0)
-    ∷ shows (lengths small 17 16 17 7 8 0)
-    ∷ shows (lengths small 16 16 16 7 7 0)
-    ∷ shows (lengths edition2 16 16 16 8 7 0)
-    ∷ shows (lengths edition2And17 16 16 16 8 8 0)
-    ∷ shows (lengths (0x01 ∷ []) 16 16 16 8 8 0)
-    ∷ shows (lengths damaged 16 16 16 8 8 0)
-    ∷ []
-
--- the one that document 01 puts first
-pub doubles-are : doubles ≡ refusal 1 ∷ refusal 2 ∷ refusal 3 ∷ refusal 4 ∷ refusal 6 ∷ refusal 5 ∷ refusal 12 ∷ []
-unfolding doubles shows lengths tail small edition2 edition2And17 damaged
-doubles-are = refl
-
--- a refusal leaves every lent word as it was
-unfoldable pub refusedCall : Called
-refusedCall = call (lengths edition2 2 2 2 2 2 0)
-
-pub refused-call : refusedCall ≡ record {
-  answer = refused (byAuthor 6);
-  after = record { codes = 7 ∷ 7 ∷ []; costs = 7 ∷ 7 ∷ []; queue = 7 ∷ 7 ∷ []; store = 7 ∷ 7 ∷ [] };
-  struck = false;
-}
-unfolding refusedCall call lengths tail edition2
-refused-call = refl
-
--- ---- the test and the reduction called alone
-
--- selector and clutch both 0; selector 1; a mask bit beyond D; a value outside its domain; a nonzero unused nibble; both at once; the limit; a bad sheet with bad words
-unfoldable pub tests : List (Answered Tested)
-unfolding call
-tests =
-    testCall small both 0 1000
-    ∷ testCall small selector 0x1000000000000000 1000
-    ∷ testCall small 0x2000000000000000 0 1000
-    ∷ testCall small selector 0x2000000000000000 1000
-    ∷ testCall small selector 0x0100000000000000 1000
-    ∷ testCall small 0x2000000000000000 1 1000
-    ∷ testCall small both 0 1
-    ∷ testCall edition2 0x2000000000000000 1 1000
-    ∷ testCall emptyClause 0 0 0
-    ∷ []
-
-pub tests-are : tests ≡
-    answered (inconsistent 2)
-    ∷ answered (consistent (1 ∷ 0 ∷ 0 ∷ []) 2)
-    ∷ refused (byHost 14)
-    ∷ refused (byHost 15)
-    ∷ refused (byHost 15)
-    ∷ refused (byHost 14)
-    ∷ answered (Tested.spent 1)
-    ∷ refused (byAuthor 6)
-    ∷ answered (inconsistent 0)
-    ∷ []
-unfolding tests call tail small emptyClause edition2 testCall onWords wordGrounds
-tests-are = refl
-
--- the whole is minimal; it is consistent; the limit strikes; nothing is needed where a clause is empty
-unfoldable pub reductions : List (Answered ReducedAlone)
-unfolding call
-reductions =
-    reduceCall small both 0 1000
-    ∷ reduceCall small both 0x1000000000000000 1000
-    ∷ reduceCall small both 0 4
-    ∷ reduceCall emptyClause both 0 1000
-    ∷ []
-
-pub reductions-are : reductions ≡
-    answered (reduced (conflict (some 0 ∷ some 0 ∷ []) 12))
-    ∷ answered (nothing 1)
-    ∷ answered (reduced (Reduced.spent 4))
-    ∷ answered (reduced (conflict (none ∷ none ∷ []) 0))
-    ∷ []
-unfolding reductions call tail small emptyClause reduceCall onWords wordGrounds reduceAlone
-reductions-are = refl
-
--- their exports: each answer, with a word behind the two; too short a buffer, which comes before the sheet; the host's refusal and the author's
-unfoldable pub testExports : List (ℕ × List ℕ)
-unfolding call
-testExports =
-    testExport small selector 0x1000000000000000 1000 (7 ∷ 8 ∷ 9 ∷ [])
-    ∷ testExport small both 0 1000 (7 ∷ 8 ∷ [])
-    ∷ testExport small both 0 1 (7 ∷ 8 ∷ [])
-    ∷ testExport edition2 0 0 1000 (7 ∷ [])
-    ∷ testExport small 0x2000000000000000 1 1000 (7 ∷ 8 ∷ [])
-    ∷ testExport edition2 0 0 1000 (7 ∷ 8 ∷ [])
-    ∷ []
-
-pub testExports-are : testExports ≡ (0, 1 ∷ 2 ∷ 9 ∷ []) ∷ (0, 2 ∷ 2 ∷ []) ∷ (0, 3 ∷ 1 ∷ []) ∷ (2, 7 ∷ []) ∷ (14, 7 ∷ 8 ∷ []) ∷ (6, 7 ∷ 8 ∷ []) ∷ []
-unfolding testExports call tail small edition2 testCall onWords wordGrounds testExport
-testExports-are = refl
-
-unfoldable pub reduceExports : List (ℕ × List ℕ × List ℕ)
-unfolding call
-reduceExports =
-    reduceExport small both 0 1000 (4 ∷ 5 ∷ 6 ∷ []) (7 ∷ 8 ∷ 9 ∷ [])
-    ∷ reduceExport small both 0x1000000000000000 1000 (4 ∷ 5 ∷ []) (7 ∷ 8 ∷ [])
-    ∷ reduceExport small both 0 4 (4 ∷ 5 ∷ []) (7 ∷ 8 ∷ [])
-    ∷ reduceExport emptyClause both 0 1000 (4 ∷ 5 ∷ []) (7 ∷ 8 ∷ [])
-    ∷ reduceExport edition2 0 0 1000 (4 ∷ []) (7 ∷ 8 ∷ [])
-    ∷ reduceExport edition2 0 0 1000 (4 ∷ 5 ∷ []) (7 ∷ [])
-    ∷ reduceExport small selector 0x2000000000000000 1000 (4 ∷ 5 ∷ []) (7 ∷ 8 ∷ [])
-    ∷ reduceExport edition2 0 0 1000 (4 ∷ 5 ∷ []) (7 ∷ 8 ∷ [])
-    ∷ []
-
-pub reduceExports-are : reduceExports ≡
-    (0, both ∷ 0 ∷ 6 ∷ [], 2 ∷ 12 ∷ 9 ∷ [])
-    ∷ (0, 4 ∷ 5 ∷ [], 1 ∷ 1 ∷ [])
-    ∷ (0, 4 ∷ 5 ∷ [], 3 ∷ 4 ∷ [])
-    ∷ (0, 0 ∷ 0 ∷ [], 2 ∷ 0 ∷ [])
-    ∷ (2, 4 ∷ [], 7 ∷ 8 ∷ [])
-    ∷ (2, 4 ∷ 5 ∷ [], 7 ∷ [])
-    ∷ (15, 4 ∷ 5 ∷ [], 7 ∷ 8 ∷ [])
-    ∷ (6, 4 ∷ 5 ∷ [], 7 ∷ 8 ∷ [])
-    ∷ []
-unfolding reduceExports call tail small emptyClause edition2 reduceCall onWords wordGrounds reduceAlone reduceExport
-reduceExports-are = refl
-
--- ---- single steps, and the whole set
-
--- tested already at its greatest: the run ends 'spent' with the state as it is, whatever else holds
-pub tested-at-most : (p : Plant) (o : Order) (k entries places limit : ℕ) (s : State) (rest : List Assignment) (n : Assignment)
-    → s .tested ≡ mostTested → judge p o k entries places limit s rest n ≡ ended Ending.spent s
-unfolding judge
-tested-at-most p o k entries places limit s rest n e = let h : ltb (s .tested) mostTested ≡ false = rw e in rw (judge, h)
-
--- one below that the test is made
-pub tested-below : (p : Plant) (o : Order) (k entries places limit : ℕ) (s : State) (rest : List Assignment) (n : Assignment) (t : ℕ)
-    → s .tested ≡ 4294967294 → test p limit n (s .trials) ≡ Tested.spent t → judge p o k entries places limit s rest n ≡ ended Ending.spent (spentInTest s t)
-unfolding judge
-tested-below p o k entries places limit s rest n t e h = let g : ltb (s .tested) mostTested ≡ true = rw e in rw (judge, g, h)
-
--- a conflict with no unassigned member: no children; with one: its other values
-pub no-member-left : resolving (2 ∷ 3 ∷ []) (some 0 ∷ none ∷ []) (some 0 ∷ none ∷ []) ≡ []
-no-member-left = refl
-
-pub one-member-left : resolving (2 ∷ 3 ∷ []) (some 0 ∷ none ∷ []) (some 0 ∷ some 1 ∷ []) ≡ (some 0 ∷ some 0 ∷ []) ∷ (some 0 ∷ some 2 ∷ []) ∷ []
-one-member-left = refl
-
--- the small plant, and its whole set
 unfoldable pub smallPlant : Plant
 smallPlant = record {
   costs = (0 ∷ 3 ∷ []) ∷ (0 ∷ 3 ∷ []) ∷ [];

@@ -1,8 +1,9 @@
 -- Document 01, "Small plant": P1 to P11, proved together as one table from the sheet's bytes and the settings to the answer. Assumes nothing.
 use mathlib.Core.Path.{_≡_, refl}
-use mathlib.Core.List.{List, [], _∷_, _++_}
+use mathlib.Core.Bool.{Bool, true, false}
+use mathlib.Core.List.{List, [], _∷_, _++_, map}
 use Prim.Native.Nat.{ℕ, _*_, _-_, _/_}
-use lib.ListN.{length, take, replicate}
+use lib.ListN.{length, replicate}
 use Rattle.model.specs.Lists.{place, placeAll}
 use Rattle.model.specs.Digits.{number, digits}
 use Rattle.model.specs.Sheet.{bitAt, bitsAt, then, many, field, edition1, decisionsAllowed, readDecision, readState, readLiteral, readClause, readFiller, readEnd, readBody, readSheet}
@@ -10,8 +11,8 @@ use Rattle.model.specs.Assignment.{assignmentOf, maskFits, valuesFit, we
 use Rattle.model.specs.Consistency.{holdsAt, literalFails, clauseFalse, anyFalse, orElse, tryValues, explore, test}
 use Rattle.model.specs.Conflict.{reduceFrom, reduce}
 use Rattle.model.specs.Order.{costThenCode, orderOf}
-use Rattle.model.specs.Listing.{checkOffers, putChildren, learn, judge, expand, remove, step, run, start, enoughSteps, listing}
-use Rattle.model.specs.Calls.{refusalNumber, firstGiven, Answered, refused, answered, Buffers, Run, ran, unfinished, Called, hostGrounds, offersOf, entryWords, buffersAfter, calledOf, runOf, listingWith, listingCall, endingNumber}
+use Rattle.model.specs.Listing.{Ending, enough, all, full, checkOffers, putChildren, learn, judge, expand, remove, step, run, start, enoughSteps, listing}
+use Rattle.model.specs.Calls.{Refusal, byAuthor, firstGiven, refused, answered, Buffers, Counts, ran, Called, hostGrounds, offersOf, entryWords, buffersAfter, calledOf, runOf, listingWith, listingCall}
 
 -- the settings of a listing: the lengths of the lent buffers in words, the words offered at the store's start, and the numbers
 pub record Settings : Type 0 where
@@ -25,11 +26,21 @@ pub record Settings : Type 0 where
   pub held : ℕ
   pub limit : ℕ
 
--- what is shown of a call: the refusal, or ending, codes, costs, tested, learned, unkept, trials
-pub data Shown : Type 0 where
-  refusal : ℕ → Shown
-  shown : ℕ → List ℕ → List ℕ → ℕ → ℕ → ℕ → ℕ → Shown
-  unended : Shown
+-- what a call is to answer: a refusal, which says whose; or a run by its ending, the codes and costs listed, the words of the
+-- conflicts stored after it, tested, learned, unkept, trials; `strikes`: 'spent' inside a reduction
+pub data Wanted : Type 0 where
+  refusal : Refusal → Wanted
+  lists : Ending → List ℕ → List ℕ → List ℕ → ℕ → ℕ → ℕ → ℕ → Wanted
+  strikes : List ℕ → List ℕ → List ℕ → ℕ → ℕ → ℕ → ℕ → Wanted
+
+-- a row of a table
+pub record Row : Type 0 where
+  pub given : Settings
+  pub wanted : Wanted
+
+infix 70 _gives_
+abbrev pub _gives_ : Settings → Wanted → Row
+s gives w = record { given = s; wanted = w }
 
 -- the buffers before the call hold a 7 wherever nothing is offered
 unfoldable pub lent : Settings → Buffers
@@ -49,15 +60,37 @@ unfolding lent
     firstGiven hostGrounds offersOf entryWords buffersAfter calledOf runOf listingWith listingCall
 call s = listingCall (s .sheet) (s .k) (lent s) (s .held) (s .limit)
 
-unfoldable pub showAnswer : Buffers → Answered Run → Shown
-showAnswer b (refused r) = refusal (refusalNumber r)
-showAnswer b (answered (ran e c)) =
-    shown (endingNumber e) (take (c .listed) (b .codes)) (take (c .listed) (b .costs)) (c .tested) (c .learned) (c .unkept) (c .trials)
-showAnswer b (answered unfinished) = unended
+-- a run's answer with every lent word after it: codes and costs beyond those listed are as lent, the queue is zero, and so is the store behind the conflicts
+unfoldable pub ranWith : Settings → Ending → List ℕ → List ℕ → List ℕ → Counts → Bool → Called
+ranWith s e codes costs conflicts counts struck = record {
+  answer = answered (ran e counts);
+  after = record {
+    codes = codes ++ replicate (s .codes - length codes) 7;
+    costs = costs ++ replicate (s .costs - length costs) 7;
+    queue = replicate (s .queue) 0;
+    store = conflicts ++ replicate (s .store - length conflicts) 0;
+  };
+  struck = struck;
+}
 
-unfoldable pub shows : Settings → Shown
-unfolding call showAnswer
-shows s = let c : Called = call s in showAnswer (c .after) (c .answer)
+abbrev pub countsFor : List ℕ → ℕ → ℕ → ℕ → ℕ → Counts
+countsFor codes tested learned unkept trials = record { listed = length codes; tested = tested; learned = learned; unkept = unkept; trials = trials }
+
+-- the whole of a wanted answer; after a refusal every lent word is as it was
+unfoldable pub whole : Settings → Wanted → Called
+unfolding ranWith
+whole s (refusal r) = record { answer = refused r; after = lent s; struck = false }
+whole s (lists e codes costs conflicts tested learned unkept trials) = ranWith s e codes costs conflicts (countsFor codes tested learned unkept trials) false
+whole s (strikes codes costs conflicts tested learned unkept trials) = ranWith s Ending.spent codes costs conflicts (countsFor codes tested learned unkept trials) true
+
+-- what the calls of a table's rows answer and leave in the lent buffers, and what they are to
+unfoldable pub answers : List Row → List Called
+unfolding call
+answers rows = map (λ r. call (r .given)) rows
+
+unfoldable pub expected : List Row → List Called
+unfolding whole lent ranWith
+expected rows = map (λ r. whole (r .given) (r .wanted)) rows
 
 -- a queue and a store of so many entries, with all offered words held, and codes and costs of k words
 unfoldable pub plain : List ℕ → ℕ → ℕ → ℕ → List ℕ → ℕ → Settings
@@ -104,48 +137,43 @@ both = 0xc000000000000000
 abbrev pub selector : ℕ
 selector = 0x8000000000000000
 
--- P1 to P11 in order; P4 has two rows, P5 three, P10 two
-unfoldable pub table : List Shown
-table =
-    shows (plain small 16 4096 64 [] 1000000)
-    ∷ shows (plain small 1 4096 64 [] 1000000)
-    ∷ shows (plain small 3 4096 64 [] 1000000)
-    ∷ shows (plain small 16 2 64 [] 1000000)
-    ∷ shows (plain small 16 3 64 [] 1000000)
-    ∷ shows (plain small 16 4096 64 [] 14)
-    ∷ shows (plain small 16 4096 64 [] 15)
-    ∷ shows (plain small 16 4096 64 [] 5)
-    ∷ shows (plain small 16 4096 64 (both ∷ 0 ∷ []) 1000000)
-    ∷ shows (plain small 16 4096 64 (selector ∷ 0x1000000000000000 ∷ []) 1000000)
-    ∷ shows (plain emptyClause 16 4096 64 [] 1000000)
-    ∷ shows (plain emptyClause 16 4096 0 [] 1000000)
-    ∷ shows (plain noDecisions 16 4096 64 [] 1000000)
-    ∷ shows (plain seventeen 16 4096 64 [] 1000000)
-    ∷ shows (plain damaged 16 4096 64 [] 1000000)
-    ∷ []
-
 unfoldable pub three : List ℕ
 three = 0x0100000000000000 ∷ 0x1000000000000000 ∷ 0x1100000000000000 ∷ []
 
-unfoldable pub wanted : List Shown
-wanted =
-    shown 2 three (3 ∷ 3 ∷ 6 ∷ []) 4 1 0 15
-    ∷ shown 1 (0x0100000000000000 ∷ []) (3 ∷ []) 2 1 0 13
-    ∷ shown 1 three (3 ∷ 3 ∷ 6 ∷ []) 4 1 0 15
-    ∷ shown 3 [] [] 0 0 0 0
-    ∷ shown 2 three (3 ∷ 3 ∷ 6 ∷ []) 4 1 0 15
-    ∷ shown 4 (0x0100000000000000 ∷ 0x1000000000000000 ∷ []) (3 ∷ 3 ∷ []) 3 1 0 14
-    ∷ shown 2 three (3 ∷ 3 ∷ 6 ∷ []) 4 1 0 15
-    ∷ shown 4 [] [] 1 0 0 5
-    ∷ shown 2 three (3 ∷ 3 ∷ 6 ∷ []) 3 0 0 5
-    ∷ shown 2 three (3 ∷ 3 ∷ 6 ∷ []) 4 1 0 17
-    ∷ shown 2 [] [] 1 1 0 0
-    ∷ shown 2 [] [] 4 0 4 0
-    ∷ refusal 7
-    ∷ refusal 7
-    ∷ refusal 12
+-- what P1 and others like it answer
+unfoldable pub asP1 : Wanted
+asP1 = lists all three (3 ∷ 3 ∷ 6 ∷ []) (both ∷ 0 ∷ []) 4 1 0 15
+
+unfoldable pub table : List Row
+table =
+    -- P1
+    plain small 16 4096 64 [] 1000000 gives asP1
+    -- P2: k 1
+    ∷ plain small 1 4096 64 [] 1000000 gives lists enough (0x0100000000000000 ∷ []) (3 ∷ []) (both ∷ 0 ∷ []) 2 1 0 13
+    -- P3: k 3
+    ∷ plain small 3 4096 64 [] 1000000 gives lists enough three (3 ∷ 3 ∷ 6 ∷ []) (both ∷ 0 ∷ []) 4 1 0 15
+    -- P4: a queue of 2 entries, and of 3
+    ∷ plain small 16 2 64 [] 1000000 gives lists full [] [] [] 0 0 0 0
+    ∷ plain small 16 3 64 [] 1000000 gives asP1
+    -- P5: limits 14, 15 and 5
+    ∷ plain small 16 4096 64 [] 14 gives lists Ending.spent (0x0100000000000000 ∷ 0x1000000000000000 ∷ []) (3 ∷ 3 ∷ []) (both ∷ 0 ∷ []) 3 1 0 14
+    ∷ plain small 16 4096 64 [] 15 gives asP1
+    ∷ plain small 16 4096 64 [] 5 gives strikes [] [] [] 1 0 0 5
+    -- P6: the store offers {selector=0, clutch=0}
+    ∷ plain small 16 4096 64 (both ∷ 0 ∷ []) 1000000 gives lists all three (3 ∷ 3 ∷ 6 ∷ []) (both ∷ 0 ∷ []) 3 0 0 5
+    -- P7: it offers {selector=1}
+    ∷ plain small 16 4096 64 (selector ∷ 0x1000000000000000 ∷ []) 1000000 gives lists all three (3 ∷ 3 ∷ 6 ∷ []) (both ∷ 0 ∷ []) 4 1 0 17
+    -- P8: an empty clause added; the empty assignment is learned
+    ∷ plain emptyClause 16 4096 64 [] 1000000 gives lists all [] [] (0 ∷ 0 ∷ []) 1 1 0 0
+    -- P9: the same with a store of 0 words
+    ∷ plain emptyClause 16 4096 0 [] 1000000 gives lists all [] [] [] 4 0 4 0
+    -- P10: D 0, and 17
+    ∷ plain noDecisions 16 4096 64 [] 1000000 gives refusal (byAuthor 7)
+    ∷ plain seventeen 16 4096 64 [] 1000000 gives refusal (byAuthor 7)
+    -- P11: a filler bit set and a byte appended
+    ∷ plain damaged 16 4096 64 [] 1000000 gives refusal (byAuthor 12)
     ∷ []
 
-pub P1-to-P11 : table ≡ wanted
-unfolding table wanted three shows plain tail small emptyClause noDecisions seventeen damaged
+pub P1-to-P11 : answers table ≡ expected table
+unfolding table three asP1 answers expected plain tail small emptyClause noDecisions seventeen damaged
 P1-to-P11 = refl

@@ -10,4 +10,8 @@ pub mod Calls
 pub mod Text
 pub mod Examples
 pub mod Edges
+pub mod Refusals
+pub mod Alone
+pub mod Exports
+pub mod Parts
 pub mod TextExamples
