@@ -38,6 +38,7 @@ pub record Row : Type 0 where
   pub given : Settings
   pub wanted : Wanted
 
+-- binds more tightly than ∷
 infix 70 _gives_
 abbrev pub _gives_ : Settings → Wanted → Row
 s gives w = record { given = s; wanted = w }
