@@ -196,7 +196,7 @@ rooms =
     -- the first unresolved conflict is taken: of the second's children there would be two, for a queue of one entry
     ∷ plain nothingHolds 16 1 3 (both ∷ 0x2000000000000000 ∷ selector ∷ 0 ∷ []) 1000
     gives lists all [] [] (both ∷ 0x2000000000000000 ∷ selector ∷ 0 ∷ 0 ∷ 0 ∷ []) 1 1 0 7
-    -- its members from the lowest up: from the highest down the queue of two entries would be full
+    -- a conflict's members are taken from the lowest up: from the highest down the queue of two entries would be full
     ∷ plain firstIsOne 16 2 2 (both ∷ 0 ∷ []) 1000 gives lists all (0x1000000000000000 ∷ 0x1100000000000000 ∷ []) (4 ∷ 4 ∷ []) (both ∷ 0 ∷ selector ∷ 0 ∷ []) 3 1 0 2
     ∷ []
 
@@ -215,7 +215,7 @@ shapes =
     gives lists all (0 ∷ 0x1000000000000000 ∷ 0x0100000000000000 ∷ 0x1100000000000000 ∷ []) (0 ∷ 1 ∷ 5 ∷ 6 ∷ []) [] 4 0 0 0
     -- one variable, listed to the end: the run takes as many steps as a sheet allows
     ∷ plain oneVariable 16 8 4 [] 1000 gives lists all (0x1000000000000000 ∷ 0 ∷ 0x2000000000000000 ∷ []) (4 ∷ 5 ∷ 6 ∷ []) [] 3 0 0 0
-    -- the lowest of two cheapest values is the better: of the nodes {first = 0} and {second = 1} the former
+    -- the lowest of two cheapest values counts: the node {second = 1}, with the best state 0 1, comes before the state 1 0
     ∷ plain tied 2 3 2 (second ∷ 0x0200000000000000 ∷ []) 1000
     gives lists enough (0 ∷ 0x1000000000000000 ∷ []) (3 ∷ 3 ∷ []) (second ∷ 0x0200000000000000 ∷ second ∷ 0x0100000000000000 ∷ []) 3 1 0 2
     -- a sheet without filler
