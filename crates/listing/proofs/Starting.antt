@@ -1,7 +1,7 @@
 -- How a run starts: the empty assignment as a node, the words with it in the queue, and the survivors of step 1. Assumes nothing.
 use mathlib.Core.Path.{_≡_, refl, sym, ap, _∙_}
 use mathlib.Core.List.{List, [], _∷_, map}
-use Prim.Native.Nat.{ℕ, _/_, _<_}
+use Prim.Native.Nat.{ℕ, _/_, _≤_, _<_}
 use native.Mathlib.Omega.{arith}
 use lib.ListN.{length, replicate}
 use Rattle.plan.specs.Plans.{planWords}
@@ -153,8 +153,9 @@ module _ {d : ℕ} {sizes prices counts lits sat uses plan : List ℕ} {preferre
     unfolding listing
     broken-ends f o =
         let s : Survived (t .plant) limit (brokenOff (o .0) used) = rw (o .2) at survived in
+        let within : used ≤ limit = omega (arith, s .1) in
         record {
           state = start (decisionSizes (t .plant)) (o .0) used;
           ends = rw (listing, o .2);
-          written = rw f (start-written k codes costs 0 (record { keeps = o .1; conflicts = s .0; within = s .1 }));
+          written = rw f (start-written k codes costs 0 (record { keeps = o .1; conflicts = s .0; within = within }));
         }

@@ -113,6 +113,7 @@ module _ (p : Plant) (o : Order) (law : Lawful (decisionSizes p) o) (short : len
       enough-k = done .enough-listed;
       sum = done .kept .sum;
       struck-spent = done .struck-spent;
+      spent-why = done .spent-why;
       states = λ i h. (getD (s .listed) i [], state-at i h, filled-at code (s .listed) (b .codes) [] i h, filled-at (o .figure) (s .listed) (b .costs) [] i h);
       gapless = λ i h f g gf gg q r.
           let same : getD (s .listed) i [] ≡ g = code-injective (decisionSizes p) (getD (s .listed) i []) g short small (state-at i h .0) (gg .0)

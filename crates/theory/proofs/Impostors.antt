@@ -1,14 +1,15 @@
--- Results that demand 3 rules out: an invented tally, a state left out, one listed twice, 'all' with a state missing, 'enough' with one too few, a wrong cost. Assumes nothing.
+-- Results that demand 3 rules out: an invented tally, a state left out, one listed twice, 'all' with a state missing, 'enough' with one too few, 'spent' with trials left, a wrong cost. Assumes nothing.
 use mathlib.Core.Path.{_≡_, sym, _∙_, ap}
+use mathlib.Core.Logic.{inl, inr}
 use mathlib.Core.Bool.{Bool, true, false}
 use mathlib.Core.List.{List, [], _∷_}
-use Prim.Native.Nat.{ℕ, _+_, _≤_}
+use Prim.Native.Nat.{ℕ, _+_, _≤_, _<_}
 use native.Mathlib.Omega.{arith}
 use lib.ListN.{length, getD}
 use Rattle.model.specs.Lists.{Begins}
 use Rattle.model.specs.Sheet.{Plant}
 use Rattle.model.specs.Order.{Order, Entry, orderOf}
-use Rattle.model.specs.Listing.{Ending, enough, all}
+use Rattle.model.specs.Listing.{Ending, enough, all, mostTested}
 use Rattle.model.specs.Calls.{Buffers, Counts, runList}
 use Rattle.model.specs.Edges.{smallPlant, small-whole}
 use Rattle.theory.specs.Run.{strikes}
@@ -32,6 +33,14 @@ module _ {p : Plant} {o : Order} {k : ℕ} {before : Buffers} {limit : ℕ} {e :
   -- 'enough' with one too few
   pub no-enough-short : e ≡ enough → c .listed + 1 ≡ k → ⊥
   no-enough-short f h = omega (arith, d .enough-k f)
+
+  -- 'spent' with trials left and tested below its greatest
+  pub no-spent-early : e ≡ Ending.spent → c .trials < limit → c .tested < mostTested → ⊥
+  no-spent-early f h m = elim (d .spent-why f) [ inl t ↦ omega (arith, t) | inr t ↦ omega (arith, t) ]
+
+  -- so none with no work done, where the limit allows a trial
+  pub no-spent-idle : e ≡ Ending.spent → 0 < limit → c .trials ≡ 0 → c .tested ≡ 0 → ⊥
+  no-spent-idle f h t m = no-spent-early f (omega arith) (omega arith)
 
 -- the small plant's three entries
 abbrev first : Entry

@@ -1,5 +1,6 @@
 -- Step 1, and the listing from its start to its end. Assumes nothing.
 use mathlib.Core.Path.{_≡_, refl, sym}
+use mathlib.Core.Logic.{inl}
 use mathlib.Core.Bool.{Bool, true, false}
 use mathlib.Core.List.{List, [], _∷_, append-nil}
 use Prim.Native.Nat.{ℕ, _≤_}
@@ -18,14 +19,14 @@ use Rattle.theory.specs.Run.{Going, Done}
 use Rattle.theory.proofs.Lists.{all-join}
 use Rattle.theory.proofs.Words.{well-formed-valid}
 use Rattle.theory.proofs.Test.{test-inconsistent}
-use Rattle.theory.proofs.TestTrials.{test-trials}
+use Rattle.theory.proofs.TestTrials.{test-trials, test-spent-at}
 use Rattle.theory.proofs.Moves.{searching-start}
 use Rattle.theory.proofs.Run.{spent-done, run-done}
 
--- what step 1 leaves: survivors that are conflicts, and trials within the limit
+-- what step 1 leaves: survivors that are conflicts, and trials within the limit, which are at it where step 1 is broken off
 abbrev pub Survived : Plant → ℕ → Checked → Type 0
 Survived p limit (checked survivors t) = All (Conflict p) survivors × (t ≤ limit)
-Survived p limit (brokenOff survivors t) = All (Conflict p) survivors × (t ≤ limit)
+Survived p limit (brokenOff survivors t) = All (Conflict p) survivors × (t ≡ limit)
 
 module _ (p : Plant) (present : VariablesPresent p) (limit : ℕ) where
   -- a well formed entry holds a valid assignment
@@ -49,7 +50,7 @@ module _ (p : Plant) (present : VariablesPresent p) (limit : ℕ) where
       go true e (inconsistent t) f ih = rw (checkOffers, e, f) (ih (stored survivors c) t
           (all-join (Conflict p) survivors (c ∷ []) a (record { valid = offer-valid o e; inconsistent = test-inconsistent p present limit c (offer-valid o e) used t f }, tt))
           (rw f at (test-trials p limit c used .within h)))
-      go true e (Tested.spent t) f ih = rw (checkOffers, e, f) (a, rw f at (test-trials p limit c used .within h))
+      go true e (Tested.spent t) f ih = rw (checkOffers, e, f) (a, test-spent-at p limit c used h t f)
 
 module _ (p : Plant) (o : Order) (law : Lawful (decisionSizes p) o) (present : VariablesPresent p) (sized : All (λ m. 1 ≤ m) (decisionSizes p)) (k limit : ℕ) where
   -- at the start of step 3 nothing has been listed, tested or learned
@@ -85,5 +86,5 @@ module _ (p : Plant) (o : Order) (law : Lawful (decisionSizes p) o) (present : V
         start (decisionSizes p) survivors used,
         rw (listing, q),
         spent-done p o law present k entries places limit survivors
-            (start (decisionSizes p) survivors used) (start-going survivors used (h .0) (h .1) .kept),
+            (start (decisionSizes p) survivors used) (start-going survivors used (h .0) (omega (arith, h .1)) .kept) (inl (h .1)),
       )

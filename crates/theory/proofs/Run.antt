@@ -1,5 +1,6 @@
 -- Each step of a run keeps what holds, or ends it; and every run ends. Assumes nothing.
 use mathlib.Core.Path.{_≡_, refl, ap}
+use mathlib.Core.Logic.{_⊎_, inl, inr}
 use mathlib.Core.Bool.{Bool, true, false, not}
 use mathlib.Core.Option.{Option, none, some}
 use mathlib.Core.List.{List, [], _∷_}
@@ -22,9 +23,9 @@ use Rattle.theory.specs.Run.{strikes, Children, Searching, Kept, Going, 
 use Rattle.theory.proofs.Lists.{sum-keep}
 use Rattle.theory.proofs.Nodes.{weight-pos, rooms-length}
 use Rattle.theory.proofs.Test.{test-consistent, test-inconsistent}
-use Rattle.theory.proofs.TestTrials.{test-trials}
+use Rattle.theory.proofs.TestTrials.{test-trials, test-spent-at}
 use Rattle.theory.proofs.Reduction.{reduce-minimal}
-use Rattle.theory.proofs.ReductionTrials.{reduce-trials}
+use Rattle.theory.proofs.ReductionTrials.{reduce-trials, reduce-spent-at}
 use Rattle.theory.proofs.Moves.{stored-conflicts, stored-more, branching-children, resolving-children, searching-put, searching-sieve, searching-drop, searching-list}
 use Rattle.theory.proofs.Queue.{enqueueAll-sum}
 
@@ -33,13 +34,14 @@ differ : {A : Type 0} → _≡_ {A = ℕ} 0 1 → A
 differ z = absurd (omega arith)
 
 module _ (p : Plant) (o : Order) (law : Lawful (decisionSizes p) o) (present : VariablesPresent p) (k entries places limit : ℕ) (survivors : List Assignment) where
-  -- the ends of a run that are 'spent': what is kept is all there is to show
-  pub spent-done : (s : State) → Kept p o k limit survivors s → Done p o k limit survivors entries Ending.spent s
-  spent-done s h = record {
+  -- the ends of a run that are 'spent': beside what is kept, that the limit or the greatest count is reached is all there is to show
+  pub spent-done : (s : State) → Kept p o k limit survivors s → (s .trials ≡ limit) ⊎ (s .tested ≡ mostTested) → Done p o k limit survivors entries Ending.spent s
+  spent-done s h why = record {
     kept = h;
     all-empty = λ e. differ (cc);
     enough-listed = λ e. differ (cc);
     struck-spent = λ e. refl;
+    spent-why = λ e. why;
     full-small = λ e. differ (cc);
   }
 
@@ -125,7 +127,7 @@ module _ (p : Plant) (o : Order) (law : Lawful (decisionSizes p) o) (present : V
               tested = omega arith;
               trials = rw f at (reduce-trials p limit n t .within h);
               listed = g .kept .listed;
-            }))
+            }) (inl (reduce-spent-at p limit n t h t′ f)))
 
     -- step 7
     judge-stepped : isFull n ≡ true → length (s .listed) < k → Stepped p o k limit survivors entries s (judge p o k entries places limit s rest n)
@@ -133,7 +135,7 @@ module _ (p : Plant) (o : Order) (law : Lawful (decisionSizes p) o) (present : V
     judge-stepped whole room = go (ltb (s .tested) mostTested) refl (test p limit n (s .trials)) refl
       where
         go : (b : Bool) → ltb (s .tested) mostTested ≡ b → (r : Tested) → test p limit n (s .trials) ≡ r → Stepped p o k limit survivors entries s (judge p o k entries places limit s rest n)
-        go false e r f = rw (judge, e) (spent-done s (g .kept))
+        go false e r f = rw (judge, e) (spent-done s (g .kept) (inr (omega (arith, ltb-false (s .tested) mostTested e, g .kept .tested))))
         go true e (consistent w t) f = rw (judge, e, f)
             (step-listed whole (ltb-true _ _ e) room t (rw f at (test-trials p limit n (s .trials) .within (g .kept .trials)))
             (w, test-consistent p present limit n (front .valid .0) (s .trials) w t f))
@@ -147,7 +149,7 @@ module _ (p : Plant) (o : Order) (law : Lawful (decisionSizes p) o) (present : V
           tested = g .kept .tested;
           trials = rw f at (test-trials p limit n (s .trials) .within (g .kept .trials));
           listed = g .kept .listed;
-        }))
+        }) (inl (test-spent-at p limit n (s .trials) (g .kept .trials) t f)))
 
     -- step 6: 'full' only where the queue has fewer entries than there are full assignments
     put-stepped : (sized : All (λ m. 1 ≤ m) (decisionSizes p)) (children : List Assignment) → Children p n children
@@ -170,6 +172,7 @@ module _ (p : Plant) (o : Order) (law : Lawful (decisionSizes p) o) (present : V
           all-empty = λ d. differ (cc);
           enough-listed = λ d. differ (cc);
           struck-spent = λ d. differ (cc (g .unstruck));
+          spent-why = λ d. differ (cc);
           full-small = λ d. omega (arith, ltb-true entries (length rest + length others) e, front .roomy, c .smaller, fewer (room ss), rooms-length ss rest sized, rooms-length ss others sized);
         })
         go false e = rw (putChildren, e) (
@@ -220,6 +223,7 @@ module _ (p : Plant) (o : Order) (law : Lawful (decisionSizes p) o) (present : V
           all-empty = λ d. differ (cc);
           enough-listed = λ d. omega (arith, ltb-false (length (s .listed)) k e, g .kept .listed);
           struck-spent = λ d. differ (cc (g .unstruck));
+          spent-why = λ d. differ (cc);
           full-small = λ d. differ (cc);
         })
         go true e [] f = rw (step, e, ap (remove p o k entries places limit s) f) (record {
@@ -227,6 +231,7 @@ module _ (p : Plant) (o : Order) (law : Lawful (decisionSizes p) o) (present : V
           all-empty = λ d. f;
           enough-listed = λ d. differ (cc);
           struck-spent = λ d. differ (cc (g .unstruck));
+          spent-why = λ d. differ (cc);
           full-small = λ d. differ (cc);
         })
         go true e (n ∷ rest) f = rw (step, e, ap (remove p o k entries places limit s) f) (expand-stepped s g n rest f sized (ltb-true _ _ e))

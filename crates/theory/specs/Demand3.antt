@@ -1,5 +1,6 @@
 -- Demand 3: one statement about a run's whole result, and what every call promises. Assumes nothing: these are definitions.
 use mathlib.Core.Path.{_≡_}
+use mathlib.Core.Logic.{_⊎_}
 use mathlib.Core.Bool.{Bool, true}
 use mathlib.Core.List.{List, _++_}
 use Prim.Native.Nat.{ℕ, _+_, _/_, _≤_, _<_}
@@ -35,6 +36,8 @@ pub record Demand3 (p : Plant) (o : Order) (k : ℕ) (before : Buffers) (limit :
   -- the sum of the tallies: one more exactly when the limit struck inside a reduction, which ends the run 'spent'
   pub sum : c .tested ≡ c .listed + c .learned + c .unkept + strikes struck
   pub struck-spent : struck ≡ true → e ≡ Ending.spent
+  -- 'spent' only where the next trial would be beyond the limit, or tested is at its greatest
+  pub spent-why : e ≡ Ending.spent → (c .trials ≡ limit) ⊎ (c .tested ≡ mostTested)
   -- each place holds the code of a full consistent assignment with its cost
   pub states : (i : ℕ) → i < c .listed → (f : List ℕ) × Good p f × (getD (after .codes) i 0 ≡ code f) × (getD (after .costs) i 0 ≡ o .figure f)
   -- no full consistent assignment stands before the first or between neighbours: one that comes before the state at a place stands at an earlier place

@@ -1,5 +1,6 @@
 -- What holds between the steps of a listing's run and at its end. Assumes nothing: these are definitions.
 use mathlib.Core.Path.{_≡_}
+use mathlib.Core.Logic.{_⊎_}
 use mathlib.Core.Bool.{Bool, true, false}
 use mathlib.Core.List.{List, [], _++_}
 use Prim.Native.Nat.{ℕ, _+_, _≤_, _<_}
@@ -69,6 +70,7 @@ module _ (p : Plant) (o : Order) (k limit : ℕ) (survivors : List Assignment) w
     pub all-empty : e ≡ all → s .queue ≡ []
     pub enough-listed : e ≡ enough → length (s .listed) ≡ k
     pub struck-spent : s .struck ≡ true → e ≡ Ending.spent
+    pub spent-why : e ≡ Ending.spent → (s .trials ≡ limit) ⊎ (s .tested ≡ mostTested)
     pub full-small : e ≡ Ending.full → entries < product (decisionSizes p)
 
   -- after a step from s: the run has ended, or goes on with less to do
