@@ -137,7 +137,7 @@ module _ {q : Question} {k limit : ℕ} {whole : Next} {queue store codes costs 
 
         again : Stepped (q .plant) (orderOf (q .plant)) k limit (r .turn .survivors) (length queue / 2) (r .state) stepped
         again = step-stepped (q .plant) (orderOf (q .plant)) (tabled-lawful t) (tabled-present t) k (length queue / 2) (length store / 2) limit (r .turn .survivors) (tabled-at-least t)
-            (r .state) (rw asked at (r .turn .going))
+            (r .state) (rw asked at (r .turn .going)) (omega (arith, r .turn .standing .room, r .turn .standing .holds .count))
 
         on : (s : State) → stepped ≡ more s → weights ss (s .queue) < weights ss (r .state .queue) → (m : ℕ) → weights ss (r .state .queue) < m
             → (left : ℕ) × (weights ss (s .queue) < left)

@@ -1,24 +1,26 @@
 -- Demand 3 of every accepted call, and what follows for two runs. Assumes nothing.
 use mathlib.Core.Path.{_≡_, refl, sym, _∙_, ap}
 use mathlib.Core.Logic.{_⊎_, inl, inr}
-use mathlib.Core.Bool.{Bool}
+use mathlib.Core.Bool.{Bool, true, false}
 use mathlib.Core.Option.{Option, none, some}
 use mathlib.Core.List.{List, [], _∷_, map, map-append}
 use Prim.Native.Nat.{ℕ, zero, suc, _/_, _≤_, _<_}
 use native.Mathlib.Omega.{arith}
+use borrow.Author.Tests.{ltb-false}
+use lib.Dec.{ltb}
 use lib.ListN.{length, getD, take, length-map}
 use Rattle.model.specs.Lists.{Some, Mem, All, Pairs, Begins, filled}
 use Rattle.model.specs.Sheet.{Plant, Read, got, edition1, readSheet, decisionSizes}
 use Rattle.model.specs.Assignment.{Assignment, code, full}
 use Rattle.model.specs.Order.{Order, Before, orderOf, Entry, entryOf, leadingStates, wholeSet}
 use Rattle.model.specs.Listing.{State, Ending, ended}
-use Rattle.model.specs.Calls.{firstGiven, refused, Buffers, hostGrounds, offersOf, buffersAfter, countsOf, entriesOf, runList, calledOf, runOf, listingWith}
+use Rattle.model.specs.Calls.{Ground, firstGiven, odd, refused, Buffers, hostGrounds, offersOf, buffersAfter, countsOf, entriesOf, runList, calledOf, runOf, listingWith}
 use Rattle.theory.specs.BestFirst.{Inv}
 use Rattle.theory.specs.Plant.{Accepted, Sized}
 use Rattle.theory.specs.Order.{In, Lawful}
 use Rattle.theory.specs.Run.{Good, Done}
 use Rattle.theory.specs.Demand3.{Demand3, Promised}
-use Rattle.theory.proofs.Lists.{at-member, all-at, all-map, all-image}
+use Rattle.theory.proofs.Lists.{at-member, all-at, all-map, all-image, or-neither}
 use Rattle.theory.proofs.Filled.{filled-take, filled-drop, filled-at}
 use Rattle.theory.proofs.BestFirst.{listed-first, listed-all}
 use Rattle.theory.proofs.BruteForce.{is-consistent}
@@ -131,6 +133,7 @@ module _ (p : Plant) (o : Order) (law : Lawful (decisionSizes p) o) (short : len
       tested-most = done .kept .tested;
       trials-most = done .kept .trials;
       full-small = done .full-small;
+      full-why = λ q. (s .listed, run-list o b s, rw (done .kept .store .parts) at (done .full-why q));
       codes-kept = rw (← length-map (s .listed) code) (filled-drop (map code (s .listed)) (b .codes));
       costs-kept = rw (← length-map (s .listed) (o .figure)) (filled-drop (map (o .figure) (s .listed)) (b .costs));
       queue-zero = refl;
@@ -154,18 +157,36 @@ module _ (sheet : List ℕ) (p : Plant) (end : ℕ) (e : readSheet edition1 shee
   sheet-lawful = cost-lawful p sheet-short (sheet-accepted .decision-sizes)
 
   -- an accepted call's run ends, and demand 3 holds of it
-  pub run-demand3 : (k : ℕ) (b : Buffers) (held limit : ℕ)
+  pub run-demand3 : (k : ℕ) (b : Buffers) → 2 ≤ length (b .queue) → (held limit : ℕ)
       → (ending : Ending) × (s : State) × (runOf p k b held limit ≡ ended ending s) × Demand3 p (orderOf p) k b limit ending (countsOf s) (buffersAfter (orderOf p) b s) (s .struck)
   unfolding runOf
-  run-demand3 k b held limit =
+  run-demand3 k b room held limit =
       let r = listing-done p (orderOf p) sheet-lawful (accepted-present edition1 p sheet-accepted) (all-map (λ s h. h .0) (decisionSizes p) sheet-sized) k limit
-      (length (b .queue) / 2) (length (b .store) / 2) (offersOf held (b .store)) in (
+      (length (b .queue) / 2) (length (b .store) / 2) (omega arith) (offersOf held (b .store)) in (
         r .1,
         r .2,
         r .3,
         demand3-done p (orderOf p) sheet-lawful (rw (length-map (p .costs) length) sheet-short) (all-map (λ s h. h .1) (decisionSizes p) sheet-sized)
             k limit (r .0) b (r .1) (r .2) (r .4),
       )
+
+-- where no ground is given, neither is the first nor any other
+none-given : (g : Ground) (gs : List Ground) → firstGiven (g ∷ gs) ≡ none → (g .given ≡ false) × (firstGiven gs ≡ none)
+unfolding firstGiven
+none-given g gs e = go (g .given) refl
+  where
+    go : (b : Bool) → g .given ≡ b → (g .given ≡ false) × (firstGiven gs ≡ none)
+    go false f = (f, rw (firstGiven, f) at e)
+    go true f = let h : some (g .number) ≡ none = rw (firstGiven, f) at e in let z : _≡_ {A = ℕ} 0 1 = cc in absurd (omega arith)
+
+-- where no ground of the host's is given, the queue has an entry
+queue-given : (k : ℕ) (b : Buffers) (held : ℕ) (resultShort : Bool) → firstGiven (hostGrounds k b held resultShort) ≡ none → 2 ≤ length (b .queue)
+unfolding hostGrounds
+queue-given k b held resultShort e =
+    let wanted = none-given _ _ e in
+    let lists = none-given _ _ (wanted .1) in
+    let queue = none-given _ _ (lists .1) in
+    ltb-false (length (b .queue)) 2 (or-neither (odd (length (b .queue))) (ltb (length (b .queue)) 2) (or-neither _ _ (queue .0) .0) .1)
 
 -- whatever is asked, a refusal changes nothing, and anything else is a run of which demand 3 holds
 pub promised : (sheet : List ℕ) (k : ℕ) (b : Buffers) (held limit : ℕ) (resultShort : Bool) → Promised sheet k b limit (listingWith sheet k b held limit resultShort)
@@ -176,5 +197,5 @@ promised sheet k b held limit resultShort = go (firstGiven (hostGrounds k b held
     go (some n) q r e = rw (listingWith, q) refl
     go none q (Read.refused n) e = rw (listingWith, q, e) refl
     go none q (got p end) e =
-        let t = run-demand3 sheet p end e k b held limit in
+        let t = run-demand3 sheet p end e k b (queue-given k b held resultShort q) held limit in
         rw (listingWith, q, e, t .2) (p, end, e, t .3)

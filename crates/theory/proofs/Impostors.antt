@@ -1,14 +1,14 @@
--- Results that demand 3 rules out: an invented tally, a state left out, one listed twice, 'all' with a state missing, 'enough' with one too few, 'spent' with trials left, a wrong cost. Assumes nothing.
-use mathlib.Core.Path.{_≡_, sym, _∙_, ap}
+-- Results that demand 3 rules out: an invented tally, a state left out, one listed twice, 'all' with a state missing, 'enough' with one too few, 'spent' with trials left, 'full' with room left, a wrong cost. Assumes nothing.
+use mathlib.Core.Path.{_≡_, refl, sym, _∙_, ap}
 use mathlib.Core.Logic.{inl, inr}
 use mathlib.Core.Bool.{Bool, true, false}
 use mathlib.Core.List.{List, [], _∷_}
-use Prim.Native.Nat.{ℕ, _+_, _≤_, _<_}
+use Prim.Native.Nat.{ℕ, _+_, _/_, _≤_, _<_}
 use native.Mathlib.Omega.{arith}
 use lib.ListN.{length, getD}
 use Rattle.model.specs.Lists.{Begins}
-use Rattle.model.specs.Sheet.{Plant}
-use Rattle.model.specs.Order.{Order, Entry, orderOf}
+use Rattle.model.specs.Sheet.{Plant, decisionSizes}
+use Rattle.model.specs.Order.{Order, Entry, orderOf, product}
 use Rattle.model.specs.Listing.{Ending, enough, all, mostTested}
 use Rattle.model.specs.Calls.{Buffers, Counts, runList}
 use Rattle.model.specs.Edges.{smallPlant, small-whole}
@@ -42,7 +42,16 @@ module _ {p : Plant} {o : Order} {k : ℕ} {before : Buffers} {limit : ℕ} {e :
   pub no-spent-idle : e ≡ Ending.spent → 0 < limit → c .trials ≡ 0 → c .tested ≡ 0 → ⊥
   no-spent-idle f h t m = no-spent-early f (omega arith) (omega arith)
 
--- the small plant's three entries
+  -- 'full' where the queue's entries and the states listed are together as many as the product of the sizes
+  pub no-full-early : e ≡ Ending.full → product (decisionSizes p) ≤ length (before .queue) / 2 + c .listed → ⊥
+  no-full-early f h = omega (arith, d .full-small f)
+
+-- the small plant has four full assignments
+small-product : product (decisionSizes smallPlant) ≡ 4
+unfolding smallPlant
+small-product = refl
+
+-- and three entries
 abbrev first : Entry
 first = record { code = 0x0100000000000000; figure = 3 }
 
@@ -73,6 +82,14 @@ module _ {k : ℕ} {before : Buffers} {limit : ℕ} {e : Ending} {c : Counts} {a
   -- a wrong cost
   pub no-wrong-cost : runList (c .listed) after ≡ record { code = 0x0100000000000000; figure = 4 } ∷ [] → ⊥
   no-wrong-cost h = let z : _≡_ {A = ℕ} 3 4 = ap (λ (l : List Entry). getD l 0 first .figure) (begins-three h .1) in omega arith
+
+  -- 'full' with a queue of 4,096 entries
+  pub no-full-roomy : e ≡ Ending.full → length (before .queue) ≡ 8192 → ⊥
+  no-full-roomy f h = no-full-early d f (rw h (omega (arith, small-product)))
+
+  -- 'full' with all three listed, whatever the queue: it has room for a node
+  pub no-full-at-last : e ≡ Ending.full → c .listed ≡ 3 → ⊥
+  no-full-at-last f h = no-full-early d f (omega (arith, small-product, d .full-why f .2 .fitted))
 
   -- 'all' with the third state missing
   pub no-all-short : e ≡ all → runList (c .listed) after ≡ first ∷ second ∷ [] → ⊥

@@ -68,17 +68,17 @@ module _ (p : Plant) (o : Order) (law : Lawful (decisionSizes p) o) (present : V
     unstruck = refl;
   }
 
-  -- every listing ends in one of the four endings, and what it ends with is as it should be
-  pub listing-done : (entries places : ℕ) (offers : List Offer)
+  -- every listing with room for the empty assignment ends in one of the four endings, and what it ends with is as it should be
+  pub listing-done : (entries places : ℕ) → 1 ≤ entries → (offers : List Offer)
       → (survivors : List Assignment) × (e : Ending) × (s : State) × (listing p o k entries places offers limit ≡ ended e s) × Done p o k limit survivors entries e s
   unfolding listing start enoughSteps
-  listing-done entries places offers = go (checkOffers p limit [] offers 0) refl (offers-survive p present limit [] offers 0 tt (omega arith))
+  listing-done entries places room offers = go (checkOffers p limit [] offers 0) refl (offers-survive p present limit [] offers 0 tt (omega arith))
     where
       go : (c : Checked) → checkOffers p limit [] offers 0 ≡ c → Survived p limit c
           → (survivors : List Assignment) × (e : Ending) × (s : State) × (listing p o k entries places offers limit ≡ ended e s) × Done p o k limit survivors entries e s
       go (checked survivors used) q h =
           let r = run-done p o law present k entries places limit survivors sized (enoughSteps (decisionSizes p)) (start (decisionSizes p) survivors used)
-          (omega arith) (start-going survivors used (h .0) (h .1)) in
+          (omega arith) (start-going survivors used (h .0) (h .1)) (omega arith) in
           (survivors, r .0, r .1, rw (listing, q) (r .2), r .3)
       go (brokenOff survivors used) q h = (
         survivors,

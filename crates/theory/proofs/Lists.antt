@@ -186,10 +186,14 @@ pub sum-ones : {A : Type 0} (xs : List A) → sumOf (λ x. 1) xs ≡ length xs
 sum-ones [] = refl
 sum-ones (x ∷ xs) = omega (arith, sum-ones xs)
 
+-- the members that pass a test are no more than all
+pub keep-length : {A : Type 0} (test : A → Bool) (xs : List A) → length (keep test xs) ≤ length xs
+keep-length test xs = omega (arith, sum-keep (λ x. 1) test xs, sum-ones xs, sum-ones (keep test xs))
+
 -- where a member fails the test, fewer are kept
 pub keep-fewer : {A : Type 0} (test : A → Bool) (xs : List A) → Some (λ x. test x ≡ false) xs → length (keep test xs) < length xs
 keep-fewer test [] s = absurd s
-keep-fewer test (x ∷ xs) (inl e) = rw e (omega (arith, sum-keep (λ x. 1) test xs, sum-ones xs, sum-ones (keep test xs)))
+keep-fewer test (x ∷ xs) (inl e) = rw e (omega (arith, keep-length test xs))
 keep-fewer test (x ∷ xs) (inr s) = omega (arith, sum-if (λ x. 1) (test x) x (keep test xs), sum-ones (keep test (x ∷ xs)), sum-ones (keep test xs), keep-fewer test xs s)
 
 -- there are n values from x on

@@ -21,7 +21,7 @@ use Rattle.theory.specs.Nodes.{room}
 use Rattle.theory.specs.Run.{Good, Stored, Children, Searching}
 use Rattle.theory.proofs.Lists.{some-map, some-keep, all-map, all-zip, all-join, all-keep, pairs-map, pairs-keep, pairs-swap, sum-keep}
 use Rattle.theory.proofs.BestFirst as first
-use Rattle.theory.proofs.Nodes.{full-one, full-best, best-least, unassigned-all, unassigned-valid, unassigned-room, branching-inside, branching-apart, branching-valid, branching-covers, branching-weight, branching-room, resolving-inside, resolving-apart, resolving-valid, resolving-covers, resolving-weight, resolving-room}
+use Rattle.theory.proofs.Nodes.{full-one, full-best, best-least, full-room, unassigned-all, unassigned-valid, unassigned-room, branching-inside, branching-apart, branching-valid, branching-covers, branching-weight, branching-room, resolving-inside, resolving-apart, resolving-valid, resolving-covers, resolving-weight, resolving-room}
 use Rattle.theory.proofs.Queue.{enqueueAll-inv, enqueueAll-all, enqueueAll-ordered, enqueueAll-sum}
 use Rattle.theory.proofs.Agreement.{full-valid, valid-length, fits-length, agree-length, full-agree}
 use Rattle.theory.proofs.Containment.{manifests-agree, full-extends}
@@ -176,7 +176,7 @@ module _ (p : Plant) (o : Order) (law : Lawful (decisionSizes p) o) where
           (s .search);
       valid = s .valid .1;
       ordered = s .ordered .1;
-      roomy = omega (arith, s .roomy);
+      roomy = rw (length-append listed (valueList n ∷ [])) (omega (arith, s .roomy, full-room ss n e));
     }
       where
         ss : List ℕ

@@ -377,6 +377,13 @@ branching-room ss n = omega (arith, branching-less room-measure ss n)
 pub resolving-room : (ss : List ℕ) (n c : Assignment) → Valid ss c → rooms ss (resolving ss n c) ≤ room ss n
 resolving-room ss n c v = omega (arith, resolving-less room-measure ss n c v)
 
+-- a full node has one
+pub full-room : (ss : List ℕ) (n : Assignment) → isFull n ≡ true → room ss n ≡ 1
+full-room [] n u = refl
+full-room (s ∷ ss) [] u = refl
+full-room (s ∷ ss) (none ∷ n) u = let z : _≡_ {A = ℕ} 0 1 = cc in absurd (omega arith)
+full-room (s ∷ ss) (some x ∷ n) u = full-room ss n u
+
 -- there are no more nodes in a queue than full assignments in its nodes
 pub rooms-length : (ss : List ℕ) (ns : List Assignment) → All (λ s. 1 ≤ s) ss → length ns ≤ rooms ss ns
 rooms-length ss [] h = omega arith

@@ -19,15 +19,15 @@ use Rattle.model.specs.Listing.{State, Ending, Next, ended, more, weight, manif
 use Rattle.theory.specs.Order.{Lawful}
 use Rattle.theory.specs.Consistency.{VariablesPresent}
 use Rattle.theory.specs.Nodes.{sumOf, weights, room}
-use Rattle.theory.specs.Run.{strikes, Children, Searching, Kept, Going, Done, Stepped}
-use Rattle.theory.proofs.Lists.{sum-keep}
+use Rattle.theory.specs.Run.{strikes, Children, Searching, childrenOf, Kept, Going, Done, Stepped}
+use Rattle.theory.proofs.Lists.{sum-keep, keep-length}
 use Rattle.theory.proofs.Nodes.{weight-pos, rooms-length}
 use Rattle.theory.proofs.Test.{test-consistent, test-inconsistent}
 use Rattle.theory.proofs.TestTrials.{test-trials, test-spent-at}
 use Rattle.theory.proofs.Reduction.{reduce-minimal}
 use Rattle.theory.proofs.ReductionTrials.{reduce-trials, reduce-spent-at}
 use Rattle.theory.proofs.Moves.{stored-conflicts, stored-more, branching-children, resolving-children, searching-put, searching-sieve, searching-drop, searching-list}
-use Rattle.theory.proofs.Queue.{enqueueAll-sum}
+use Rattle.theory.proofs.Queue.{enqueueAll-length, enqueueAll-sum}
 
 -- two endings are not the same
 differ : {A : Type 0} → _≡_ {A = ℕ} 0 1 → A
@@ -43,9 +43,10 @@ module _ (p : Plant) (o : Order) (law : Lawful (decisionSizes p) o) (present : V
     struck-spent = λ e. refl;
     spent-why = λ e. why;
     full-small = λ e. differ (cc);
+    full-why = λ e. differ (cc);
   }
 
-  module _ (s : State) (g : Going p o k limit survivors s) (n : Assignment) (rest : List Assignment) (head : s .queue ≡ n ∷ rest) where
+  module _ (s : State) (g : Going p o k limit survivors s) (n : Assignment) (rest : List Assignment) (head : s .queue ≡ n ∷ rest) (fits : length (s .queue) ≤ entries) where
     -- what is searched, with the node that is removed in front
     front : Searching p o (n ∷ rest) (s .listed)
     front = rw head at (g .kept .searching)
@@ -53,6 +54,10 @@ module _ (p : Plant) (o : Order) (law : Lawful (decisionSizes p) o) (present : V
     -- the queue without the node weighs less
     lighter : weights (decisionSizes p) rest < weights (decisionSizes p) (s .queue)
     lighter = rw head (omega (arith, weight-pos (decisionSizes p) n))
+
+    -- and has an entry free
+    fitted : length rest < entries
+    fitted = let h : length (n ∷ rest) ≤ entries = rw head at fits in omega arith
 
     -- the sum of the tallies, while the limit has not struck
     sum : s .tested ≡ length (s .listed) + s .learned + s .unkept
@@ -74,6 +79,7 @@ module _ (p : Plant) (o : Order) (law : Lawful (decisionSizes p) o) (present : V
           unstruck = g .unstruck;
         },
         lighter,
+        omega (arith, fitted),
       )
 
       module _ (bad : Consistent p n → ⊥) where
@@ -92,6 +98,7 @@ module _ (p : Plant) (o : Order) (law : Lawful (decisionSizes p) o) (present : V
             unstruck = g .unstruck;
           },
           lighter,
+          omega (arith, fitted),
         )
 
         -- step 7, inconsistent and learned
@@ -109,6 +116,7 @@ module _ (p : Plant) (o : Order) (law : Lawful (decisionSizes p) o) (present : V
             unstruck = g .unstruck;
           },
           omega (arith, lighter, sum-keep (weight (decisionSizes p)) (λ m. not (manifestsAny (c ∷ []) m)) rest),
+          omega (arith, fitted, keep-length (λ m. not (manifestsAny (c ∷ []) m)) rest),
         )
 
         -- step 7, inconsistent: the reduction
@@ -151,11 +159,11 @@ module _ (p : Plant) (o : Order) (law : Lawful (decisionSizes p) o) (present : V
           listed = g .kept .listed;
         }) (inl (test-spent-at p limit n (s .trials) (g .kept .trials) t f)))
 
-    -- step 6: 'full' only where the queue has fewer entries than there are full assignments
-    put-stepped : (sized : All (λ m. 1 ≤ m) (decisionSizes p)) (children : List Assignment) → Children p n children
+    -- step 6: 'full' only where the children outnumber the free entries, and the entries are fewer than the full assignments that are not listed
+    put-stepped : (sized : All (λ m. 1 ≤ m) (decisionSizes p)) (children : List Assignment) → childrenOf (decisionSizes p) (s .store) n ≡ children → Children p n children
         → Stepped p o k limit survivors entries s (putChildren p o k entries places limit s rest children)
     unfolding putChildren
-    put-stepped sized children c = go (ltb entries (length rest + length others)) refl
+    put-stepped sized children are c = go (ltb entries (length rest + length others)) refl
       where
         ss : List ℕ
         ss = decisionSizes p
@@ -174,6 +182,7 @@ module _ (p : Plant) (o : Order) (law : Lawful (decisionSizes p) o) (present : V
           struck-spent = λ d. differ (cc (g .unstruck));
           spent-why = λ d. differ (cc);
           full-small = λ d. omega (arith, ltb-true entries (length rest + length others) e, front .roomy, c .smaller, fewer (room ss), rooms-length ss rest sized, rooms-length ss others sized);
+          full-why = λ d. record { node = n; rest = rest; searching = front; fitted = fitted; outnumber = rw are (ltb-true entries (length rest + length others) e) };
         })
         go false e = rw (putChildren, e) (
           record {
@@ -188,6 +197,7 @@ module _ (p : Plant) (o : Order) (law : Lawful (decisionSizes p) o) (present : V
             unstruck = g .unstruck;
           },
           rw (enqueueAll-sum o (weight ss) others rest, head) (omega (arith, c .lighter, fewer (weight ss))),
+          rw (enqueueAll-length o others rest) (omega (arith, ltb-false entries (length rest + length others) e)),
         )
 
     -- the first unresolved conflict is one of the store's, and unresolved
@@ -207,15 +217,15 @@ module _ (p : Plant) (o : Order) (law : Lawful (decisionSizes p) o) (present : V
         go : (u : Option Assignment) → firstUnresolved (s .store) n ≡ u → (b : Bool) → isFull n ≡ b → Stepped p o k limit survivors entries s (expand p o k entries places limit s rest n)
         go (some c) e b f =
             let h = unresolved (s .store) (stored-conflicts p (g .kept .store)) c e in
-            rw (expand, e) (put-stepped sized (resolving (decisionSizes p) n c) (resolving-children p n (front .valid .0) c (h .0) (h .1)))
+            rw (expand, e) (put-stepped sized (resolving (decisionSizes p) n c) (rw (childrenOf, e)) (resolving-children p n (front .valid .0) c (h .0) (h .1)))
         go none e true f = rw (expand, e, f) (judge-stepped f room)
-        go none e false f = rw (expand, e, f) (put-stepped sized (branching (decisionSizes p) n) (branching-children p n (front .valid .0) f))
+        go none e false f = rw (expand, e, f) (put-stepped sized (branching (decisionSizes p) n) (rw (childrenOf, e)) (branching-children p n (front .valid .0) f))
 
   module _ (sized : All (λ m. 1 ≤ m) (decisionSizes p)) where
     -- steps 3 to 7
-    pub step-stepped : (s : State) → Going p o k limit survivors s → Stepped p o k limit survivors entries s (step p o k entries places limit s)
+    pub step-stepped : (s : State) → Going p o k limit survivors s → length (s .queue) ≤ entries → Stepped p o k limit survivors entries s (step p o k entries places limit s)
     unfolding step remove
-    step-stepped s g = go (ltb (length (s .listed)) k) refl (s .queue) refl
+    step-stepped s g fits = go (ltb (length (s .listed)) k) refl (s .queue) refl
       where
         go : (b : Bool) → ltb (length (s .listed)) k ≡ b → (q : List Assignment) → s .queue ≡ q → Stepped p o k limit survivors entries s (step p o k entries places limit s)
         go false e q f = rw (step, e) (record {
@@ -225,6 +235,7 @@ module _ (p : Plant) (o : Order) (law : Lawful (decisionSizes p) o) (present : V
           struck-spent = λ d. differ (cc (g .unstruck));
           spent-why = λ d. differ (cc);
           full-small = λ d. differ (cc);
+          full-why = λ d. differ (cc);
         })
         go true e [] f = rw (step, e, ap (remove p o k entries places limit s) f) (record {
           kept = g .kept;
@@ -233,19 +244,20 @@ module _ (p : Plant) (o : Order) (law : Lawful (decisionSizes p) o) (present : V
           struck-spent = λ d. differ (cc (g .unstruck));
           spent-why = λ d. differ (cc);
           full-small = λ d. differ (cc);
+          full-why = λ d. differ (cc);
         })
-        go true e (n ∷ rest) f = rw (step, e, ap (remove p o k entries places limit s) f) (expand-stepped s g n rest f sized (ltb-true _ _ e))
+        go true e (n ∷ rest) f = rw (step, e, ap (remove p o k entries places limit s) f) (expand-stepped s g n rest f fits sized (ltb-true _ _ e))
 
     -- with more steps than the queue weighs, the run ends
-    pub run-done : (fuel : ℕ) (s : State) → weights (decisionSizes p) (s .queue) < fuel → Going p o k limit survivors s
+    pub run-done : (fuel : ℕ) (s : State) → weights (decisionSizes p) (s .queue) < fuel → Going p o k limit survivors s → length (s .queue) ≤ entries
         → (e : Ending) × (t : State) × (run p o k entries places limit fuel s ≡ ended e t) × Done p o k limit survivors entries e t
     unfolding run
-    run-done zero s h g = absurd (omega arith)
-    run-done (suc fuel) s h g = go (step p o k entries places limit s) refl (step-stepped s g) (run-done fuel)
+    run-done zero s h g fits = absurd (omega arith)
+    run-done (suc fuel) s h g fits = go (step p o k entries places limit s) refl (step-stepped s g fits) (run-done fuel)
       where
         go : (x : Next) → step p o k entries places limit s ≡ x → Stepped p o k limit survivors entries s x
-            → ((t : State) → weights (decisionSizes p) (t .queue) < fuel → Going p o k limit survivors t
+            → ((t : State) → weights (decisionSizes p) (t .queue) < fuel → Going p o k limit survivors t → length (t .queue) ≤ entries
             → (e : Ending) × (u : State) × (run p o k entries places limit fuel t ≡ ended e u) × Done p o k limit survivors entries e u)
             → (e : Ending) × (t : State) × (run p o k entries places limit (suc fuel) s ≡ ended e t) × Done p o k limit survivors entries e t
         go (ended e t) q d ih = (e, t, rw (run, q), d)
-        go (more t) q d ih = let r = ih t (omega (arith, d .1)) (d .0) in (r .0, r .1, rw (run, q) (r .2), r .3)
+        go (more t) q d ih = let r = ih t (omega (arith, d .1)) (d .0) (d .2) in (r .0, r .1, rw (run, q) (r .2), r .3)

@@ -2,17 +2,17 @@
 use mathlib.Core.Path.{_≡_}
 use mathlib.Core.Logic.{_⊎_}
 use mathlib.Core.Bool.{Bool, true}
-use mathlib.Core.List.{List, _++_}
+use mathlib.Core.List.{List, _++_, map}
 use Prim.Native.Nat.{ℕ, _+_, _/_, _≤_, _<_}
 use lib.ListN.{length, getD, drop, replicate}
 use Rattle.model.specs.Lists.{All, Begins, filled}
 use Rattle.model.specs.Sheet.{Plant, got, edition1, readSheet, decisionSizes}
 use Rattle.model.specs.Assignment.{Assignment, code}
 use Rattle.model.specs.Conflict.{Conflict, Minimal}
-use Rattle.model.specs.Order.{Order, Before, orderOf, product, wholeSet}
+use Rattle.model.specs.Order.{Order, Before, orderOf, product, entryOf, wholeSet}
 use Rattle.model.specs.Listing.{Ending, enough, all, mostTested}
 use Rattle.model.specs.Calls.{refused, answered, Buffers, Counts, ran, unfinished, Answer, Called, entryWords, runList}
-use Rattle.theory.specs.Run.{strikes, Good}
+use Rattle.theory.specs.Run.{strikes, Good, Overfull}
 
 -- the store after a run: conflicts that survived step 1, then minimal ones that were learned, then zeros
 pub record StoreAfter (p : Plant) (learned : ℕ) (before after : List ℕ) : Type 0 where
@@ -48,8 +48,10 @@ pub record Demand3 (p : Plant) (o : Order) (k : ℕ) (before : Buffers) (limit :
   -- the counts' bounds
   pub tested-most : c .tested ≤ mostTested
   pub trials-most : c .trials ≤ limit
-  -- 'full' only where the queue has fewer entries than the product of the sizes
-  pub full-small : e ≡ Ending.full → length (before .queue) / 2 < product (decisionSizes p)
+  -- 'full' only where the queue's entries and the states listed are together fewer than the product of the sizes
+  pub full-small : e ≡ Ending.full → length (before .queue) / 2 + c .listed < product (decisionSizes p)
+  -- and only where the children of a node outnumber the free entries, with the conflicts that are stored and the states that are listed
+  pub full-why : e ≡ Ending.full → (fs : List (List ℕ)) × (runList (c .listed) after ≡ map (entryOf o) fs) × Overfull p o (length (before .queue) / 2) (stored .survivors ++ stored .since) fs
   -- codes and costs beyond listed are unchanged, and the queue is zero
   pub codes-kept : drop (c .listed) (after .codes) ≡ drop (c .listed) (before .codes)
   pub costs-kept : drop (c .listed) (after .costs) ≡ drop (c .listed) (before .costs)

@@ -2,7 +2,8 @@
 use mathlib.Core.Path.{_≡_}
 use mathlib.Core.Logic.{_⊎_}
 use mathlib.Core.Bool.{Bool, true, false}
-use mathlib.Core.List.{List, [], _++_}
+use mathlib.Core.Option.{none, some}
+use mathlib.Core.List.{List, [], _∷_, _++_}
 use Prim.Native.Nat.{ℕ, _+_, _≤_, _<_}
 use lib.ListN.{length}
 use Rattle.model.specs.Lists.{Some, All, Pairs}
@@ -11,7 +12,7 @@ use Rattle.model.specs.Assignment.{Assignment, Fits, Valid, Agree, full}
 use Rattle.model.specs.Consistency.{Consistent}
 use Rattle.model.specs.Conflict.{Conflict, Minimal}
 use Rattle.model.specs.Order.{Order, Before, product}
-use Rattle.model.specs.Listing.{State, Ending, enough, all, Next, ended, more, weight, mostTested}
+use Rattle.model.specs.Listing.{State, Ending, enough, all, Next, ended, more, weight, firstUnresolved, resolving, branching, leaveOff, mostTested}
 use Rattle.theory.specs.BestFirst.{Apart, Inv}
 use Rattle.theory.specs.Order.{In}
 use Rattle.theory.specs.Nodes.{Ordered, weights, room, rooms}
@@ -47,7 +48,19 @@ pub record Searching (p : Plant) (o : Order) (queue : List Assignment) (listed :
   pub search : Inv (Before o) (In (decisionSizes p)) (Good p) queue listed
   pub valid : All (Valid (decisionSizes p)) queue
   pub ordered : Ordered o queue
-  pub roomy : rooms (decisionSizes p) queue ≤ product (decisionSizes p)
+  pub roomy : rooms (decisionSizes p) queue + length listed ≤ product (decisionSizes p)
+
+-- the children of a node: step 4's, by the first stored conflict that it does not resolve, or where it resolves all step 5's, of which a full node has none
+abbrev pub childrenOf : List ℕ → List Assignment → Assignment → List Assignment
+childrenOf ss store n = elim (firstUnresolved store n) [ some c ↦ resolving ss n c | none ↦ branching ss n ]
+
+-- why a run ends 'full': a node was removed from a queue that fitted, and its children, without those that manifest a stored conflict, outnumber the free entries, counting the one just freed
+pub record Overfull (p : Plant) (o : Order) (entries : ℕ) (store : List Assignment) (listed : List (List ℕ)) : Type 0 where
+  pub node : Assignment
+  pub rest : List Assignment
+  pub searching : Searching p o (node ∷ rest) listed
+  pub fitted : length rest < entries
+  pub outnumber : entries < length rest + length (leaveOff store (childrenOf (decisionSizes p) store node))
 
 module _ (p : Plant) (o : Order) (k limit : ℕ) (survivors : List Assignment) where
   -- between steps, and at the end
@@ -71,9 +84,10 @@ module _ (p : Plant) (o : Order) (k limit : ℕ) (survivors : List Assignment) w
     pub enough-listed : e ≡ enough → length (s .listed) ≡ k
     pub struck-spent : s .struck ≡ true → e ≡ Ending.spent
     pub spent-why : e ≡ Ending.spent → (s .trials ≡ limit) ⊎ (s .tested ≡ mostTested)
-    pub full-small : e ≡ Ending.full → entries < product (decisionSizes p)
+    pub full-small : e ≡ Ending.full → entries + length (s .listed) < product (decisionSizes p)
+    pub full-why : e ≡ Ending.full → Overfull p o entries (s .store) (s .listed)
 
-  -- after a step from s: the run has ended, or goes on with less to do
+  -- after a step from s: the run has ended, or goes on with less to do and a queue that fits
   abbrev pub Stepped : ℕ → State → Next → Type 0
   Stepped entries s (ended e t) = Done entries e t
-  Stepped entries s (more t) = Going t × (weights (decisionSizes p) (t .queue) < weights (decisionSizes p) (s .queue))
+  Stepped entries s (more t) = Going t × (weights (decisionSizes p) (t .queue) < weights (decisionSizes p) (s .queue)) × (length (t .queue) ≤ entries)
