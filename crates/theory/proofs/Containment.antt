@@ -1,17 +1,19 @@
--- An assignment that is contained in a consistent one is consistent. Assumes nothing.
+-- An assignment that is contained in a consistent one is consistent, and what a conflict is in terms of full assignments. Assumes nothing.
 use mathlib.Core.Path.{_≡_, refl, sym, _∙_}
-use mathlib.Core.Bool.{Bool, true, _&&_, and-eq-true-iff, false≢true}
+use mathlib.Core.Logic.{_↔_}
+use mathlib.Core.Bool.{Bool, true, false, not, _&&_, _||_, and-eq-true-iff, false≢true}
 use mathlib.Core.Option.{Option, none, some}
 use mathlib.Core.List.{List, [], _∷_, _++_}
 use Prim.Native.Nat.{ℕ, zero, suc}
 use native.Mathlib.Omega.{arith}
 use borrow.Author.Tests.{eq-eqb, eqb-true}
-use lib.ListN.{length, set, replicate, length-set, length-map}
-use Rattle.model.specs.Sheet.{Plant}
-use Rattle.model.specs.Assignment.{Assignment, Takes, Agree, full}
+use lib.Dec.{eqb}
+use lib.ListN.{length, take, set, replicate, length-set, length-map}
+use Rattle.model.specs.Sheet.{Plant, decisionSizes}
+use Rattle.model.specs.Assignment.{Assignment, Fits, Valid, Takes, Agree, full}
 use Rattle.model.specs.Consistency.{overAll, Consistent}
-use Rattle.model.specs.Conflict.{contains, manifests}
-use Rattle.theory.proofs.Agreement.{agree-length}
+use Rattle.model.specs.Conflict.{Conflict, contains, manifests, resolves}
+use Rattle.theory.proofs.Agreement.{valid-length, agree-length}
 
 -- ---- containment
 
@@ -75,6 +77,31 @@ manifests-agree (o ∷ n) (d ∷ c) m (x ∷ f) e h k =
     let b = and-eq-true-iff (contains o d) (manifests n c) .0 h in
     (contains-takes x o d (b .0) (k .0), manifests-agree n c m f (omega arith) (b .1) (k .1))
 
+-- a full assignment that does not manifest an assignment resolves it (Definition 2: it "manifests" it if it contains it, "otherwise" it "resolves" it)
+pub full-otherwise : (f : List ℕ) (c : Assignment) → resolves (full f) c ≡ not (manifests (full f) c)
+full-otherwise [] c = refl
+full-otherwise (x ∷ f) [] = refl
+full-otherwise (x ∷ f) (none ∷ c) = full-otherwise f c
+full-otherwise (x ∷ f) (some y ∷ c) = go (eqb x y) (full-otherwise f c)
+  where
+    go : (b : Bool) → resolves (full f) c ≡ not (manifests (full f) c) → (not b || resolves (full f) c) ≡ not (b && manifests (full f) c)
+    go true ih = ih
+    go false ih = refl
+
+-- ---- the first variables
+
+-- values of all domains fit the first ones with as many as these are
+fits-first : (ss ts f : List ℕ) → Fits (ss ++ ts) f → Fits ss (take (length ss) f)
+fits-first [] ts f h = tt
+fits-first (s ∷ ss) ts [] h = absurd h
+fits-first (s ∷ ss) ts (x ∷ f) h = (h .0, fits-first ss ts f (h .1))
+
+-- values that extend an assignment c and m after it: the first ones extend c, and all extend the first ones and m after them
+restricted : (c m : Assignment) (f : List ℕ) → Agree f (c ++ m) → Agree (take (length c) f) c × Agree f (full (take (length c) f) ++ m)
+restricted [] m f h = (tt, h)
+restricted (o ∷ c) m [] h = absurd h
+restricted (o ∷ c) m (x ∷ f) h = let r = restricted c m f (h .1) in ((h .0, r .0), (refl, r .1))
+
 -- ---- consistency
 
 module _ (p : Plant) where
@@ -93,3 +120,20 @@ module _ (p : Plant) where
   -- an assignment that a consistent full one extends is consistent: a conflict holds no consistent full assignment
   pub full-extends : (f : List ℕ) (c : Assignment) → Agree f c → Consistent p (full f) → Consistent p c
   full-extends f c h = consistent-manifests (full f) c (length-map f some ∙ agree-length f c h) (manifests-full f c h)
+
+  -- a consistent assignment has a consistent full one that extends it: what its values of all variables say of the decision variables
+  pub consistent-full : (c : Assignment) → Valid (decisionSizes p) c → Consistent p c → (f : List ℕ) × Fits (decisionSizes p) f × Agree f c × Consistent p (full f)
+  consistent-full c v (w, s) =
+      let d = restricted c (replicate (length (p .states)) none) w (s .extends) in (
+        take (length c) w,
+        rw (valid-length (decisionSizes p) c v) (fits-first (decisionSizes p) (p .states) w (s .fits)),
+        d .0,
+        (w, record { fits = s .fits; extends = d .1; holds = s .holds }),
+      )
+
+  -- Williams and Ragno, Definition 2: a conflict is "a partial assignment .. such that every state that extends" it "is inconsistent"
+  pub conflict-exactly : (c : Assignment) → Valid (decisionSizes p) c → Conflict p c ↔ ((f : List ℕ) → Fits (decisionSizes p) f → Agree f c → Consistent p (full f) → ⊥)
+  conflict-exactly c v = (
+    λ k f h a s. k .inconsistent (full-extends f c a s),
+    λ h. record { valid = v; inconsistent = λ s. let (f, fits, agree, good) = consistent-full c v s in h f fits agree good },
+  )
