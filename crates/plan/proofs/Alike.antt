@@ -62,22 +62,22 @@ module _ {plan after : List ℕ} (s : SameBefore notesBegin plan after) where
 
 -- ---- alike
 
-pub alike-same : (needs set : ℕ → Bool) → Alike needs set set
-alike-same needs set = record { same = λ c h e. refl }
+pub alike-same : (needs had : ℕ → Bool) → Alike needs had had
+alike-same needs had = record { same = λ c h e. refl }
 
 -- in fewer clauses
-pub alike-fewer : {needs fewer set other : ℕ → Bool} → ((c : ℕ) → c < pairClauses → fewer c ≡ true → needs c ≡ true) → Alike needs set other → Alike fewer set other
+pub alike-fewer : {needs fewer had other : ℕ → Bool} → ((c : ℕ) → c < pairClauses → fewer c ≡ true → needs c ≡ true) → Alike needs had other → Alike fewer had other
 alike-fewer f a = record { same = λ c h e. a .same c h (f c h e) }
 
 -- a test of clauses that are all needed says the same
-pub within-alike : {due needs set other : ℕ → Bool} (row : ℕ → Bool) {r : Bool} → ((c : ℕ) → c < pairClauses → due c ≡ true → needs c ≡ true) → Alike needs set other
-    → Within pairClauses due (λ c. set c || row c) r → Within pairClauses due (λ c. other c || row c) r
+pub within-alike : {due needs had other : ℕ → Bool} (row : ℕ → Bool) {r : Bool} → ((c : ℕ) → c < pairClauses → due c ≡ true → needs c ≡ true) → Alike needs had other
+    → Within pairClauses due (λ c. had c || row c) r → Within pairClauses due (λ c. other c || row c) r
 within-alike row f a w = record {
   all = λ e c h i. ap (λ (b : Bool). b || row c) (a .same c h (f c h i)) ∙ w .all e c h i;
   only = λ g. w .only (λ c h i. sym (ap (λ (b : Bool). b || row c) (a .same c h (f c h i))) ∙ g c h i);
 }
 
 -- sets that are alike stay alike with the clauses of a row
-pub alike-deeper : {needs fewer set other deeper : ℕ → Bool} (row : ℕ → Bool) → ((c : ℕ) → c < pairClauses → fewer c ≡ true → needs c ≡ true) → ((c : ℕ) → c < pairClauses → deeper c ≡ (set c || row c))
-    → Alike needs set other → Alike fewer deeper (λ c. other c || row c)
+pub alike-deeper : {needs fewer had other deeper : ℕ → Bool} (row : ℕ → Bool) → ((c : ℕ) → c < pairClauses → fewer c ≡ true → needs c ≡ true) → ((c : ℕ) → c < pairClauses → deeper c ≡ (had c || row c))
+    → Alike needs had other → Alike fewer deeper (λ c. other c || row c)
 alike-deeper row f j a = record { same = λ c h e. ap (λ (b : Bool). b || row c) (a .same c h (f c h e)) ∙ sym (j c h) }

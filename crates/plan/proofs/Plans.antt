@@ -20,26 +20,26 @@ use Rattle.plan.proofs.Pairs.{pair-or, plan-less}
 
 -- an unassigned variable is the first from itself on
 pub free-here : (vals : List ℕ) (v : ℕ) → v < length vals → getD vals v 0 ≡ unassigned → NextFree vals v v
-free-here vals v h e = record { after = omega arith; upto = omega arith; set = λ u a b. absurd (omega arith); free = λ l. e }
+free-here vals v h e = record { after = omega arith; upto = omega arith; assigned = λ u a b. absurd (omega arith); free = λ l. e }
 
 -- an assigned one is passed over
 pub free-past : (vals : List ℕ) (v n : ℕ) → (getD vals v 0 ≡ unassigned → ⊥) → NextFree vals (v + 1) n → NextFree vals v n
-free-past vals v n d f = record { after = omega (arith, f .after); upto = f .upto; set = λ u a b. go u a b (ℕ-discrete u v); free = f .free }
+free-past vals v n d f = record { after = omega (arith, f .after); upto = f .upto; assigned = λ u a b. go u a b (ℕ-discrete u v); free = f .free }
   where
     go : (u : ℕ) → v ≤ u → u < n → Dec (u ≡ v) → getD vals u 0 ≡ unassigned → ⊥
     go u a b (yes p) e = d (rw p at e)
-    go u a b (no p) e = f .set u (omega arith) b e
+    go u a b (no p) e = f .assigned u (omega arith) b e
 
 -- from the end on there is none
 pub free-end : (vals : List ℕ) → NextFree vals (length vals) (length vals)
-free-end vals = record { after = omega arith; upto = omega arith; set = λ u a b. absurd (omega arith); free = λ l. absurd (omega arith) }
+free-end vals = record { after = omega arith; upto = omega arith; assigned = λ u a b. absurd (omega arith); free = λ l. absurd (omega arith) }
 
 -- a byte changes nothing where it is not looked at
 pub free-same : (vals vals′ : List ℕ) (from n : ℕ) → length vals′ ≡ length vals → ((u : ℕ) → from ≤ u → u < length vals → getD vals′ u 0 ≡ getD vals u 0) → NextFree vals from n → NextFree vals′ from n
 free-same vals vals′ from n e same f = record {
   after = f .after;
   upto = omega (arith, f .upto);
-  set = λ u a b q. f .set u a b (sym (same u a (omega (arith, f .upto))) ∙ q);
+  assigned = λ u a b q. f .assigned u a b (sym (same u a (omega (arith, f .upto))) ∙ q);
   free = λ l. same n (f .after) (omega arith) ∙ f .free (omega arith);
 }
 

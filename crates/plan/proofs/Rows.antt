@@ -21,7 +21,7 @@ module _ (sizes vals plan : List ℕ) (v : ℕ) (p : PlanFor sizes vals plan v) 
   next-here = record {
     after = omega arith;
     upto = omega (arith, p .bytes .upto, p .bytes .same);
-    set = λ u a b. absurd (omega arith);
+    assigned = λ u a b. absurd (omega arith);
     free = λ l. p .free (omega (arith, p .bytes .same));
   }
 

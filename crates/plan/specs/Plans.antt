@@ -90,8 +90,8 @@ pub record Searchable (plan : List ℕ) (v : ℕ) : Type 0 where
   pub long : length plan ≡ planWords
 
 -- of the clauses that a pair has room for, those that are needed are in one set where they are in the other
-pub record Alike (needs set other : ℕ → Bool) : Type 0 where
-  pub same : (c : ℕ) → c < pairClauses → needs c ≡ true → other c ≡ set c
+pub record Alike (needs had other : ℕ → Bool) : Type 0 where
+  pub same : (c : ℕ) → c < pairClauses → needs c ≡ true → other c ≡ had c
 
 -- wherever a search along the plan comes to v with the needed clauses satisfied that `had` has, it finds no values, by t trials
 pub record Refuted (cs : List (List Literal)) (sizes sat plan : List ℕ) (v : ℕ) (needs had : ℕ → Bool) (t : ℕ) : Type 0 where

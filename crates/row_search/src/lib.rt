@@ -56,6 +56,7 @@ fn next_free(vals: &[u8], from: usize) -> usize
 }
 
 // Goes through the variables from `from` on.
+// Each descent leaves one variable fewer to set: `fewer-set` in trials/proofs/Descents.
 fn descend(
     sizes: &[u8],
     sat: &[u64],

@@ -8,7 +8,7 @@ use Rattle.readings.specs.Lengths.{clauseBytes}
 
 -- the counts' bounds, that a row is as long as its size says, and that the literals are there
 pub record Held (d s c : ℕ) (sizes costs counts lits : List ℕ) : Type 0 where
-  pub some : 1 ≤ d
+  pub at-least-one : 1 ≤ d
   pub decisions : d ≤ 16
   pub states : s ≤ 32
   pub clauses : c ≤ 512

@@ -5,6 +5,7 @@ pub mod Children
 pub mod Containment
 pub mod Corollaries
 pub mod Demand3
+pub mod Descent
 pub mod Digits
 pub mod Every
 pub mod Fields

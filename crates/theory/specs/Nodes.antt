@@ -43,3 +43,14 @@ abbrev pub Filled : ℕ → Assignment → Type 0
 Filled zero a = Unit {0}
 Filled (suc v) [] = ⊥
 Filled (suc v) (o ∷ a) = (isSome o ≡ true) × Filled v a
+
+-- how many variables are unassigned
+abbrev pub unset : Assignment → ℕ
+unset [] = 0
+unset (none ∷ a) = unset a + 1
+unset (some x ∷ a) = unset a
+
+-- what the test may hand down at the unassigned variable v of an assignment a: one variable fewer is left to set, and those up to v are assigned
+pub record HandedDown (v : ℕ) (a b : Assignment) : Type 0 where
+  pub fewer : unset b + 1 ≡ unset a
+  pub filled : Filled (v + 1) b

@@ -1,4 +1,5 @@
 pub mod Bytes
+pub mod Descents
 pub mod Endings
 pub mod FirstSets
 pub mod Turns

@@ -76,7 +76,7 @@ module _ (m : ℕ) (Known : List (List Literal) → Type 0) (sizes : List ℕ) (
       → Searches m Known sizes inSat inDue vals inHeld v used limit after r → Searches m Known sizes inSat inDue vals inHeld from used limit after r
   passed-over inHeld used limit after r deep =
       let e : from + (v - from) ≡ v = omega (arith, next .after) in
-      go (v - from) from room (omega (arith, next .upto, room .same)) (λ u a b. next .set u a (omega arith)) (rw e deep)
+      go (v - from) from room (omega (arith, next .upto, room .same)) (λ u a b. next .assigned u a (omega arith)) (rw e deep)
     where
       go : (n w : ℕ) → Bytes sizes vals w → w + n ≤ length sizes → ((u : ℕ) → w ≤ u → u < w + n → getD vals u 0 ≡ unassigned → ⊥)
           → Searches m Known sizes inSat inDue vals inHeld (w + n) used limit after r → Searches m Known sizes inSat inDue vals inHeld w used limit after r

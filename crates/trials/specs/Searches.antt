@@ -4,12 +4,12 @@ use mathlib.Core.Bool.{Bool, false}
 use mathlib.Core.Option.{none}
 use mathlib.Core.List.{List, map}
 use Prim.Native.Nat.{ℕ, _+_, _-_, _*_, _<_, _≤_}
-use lib.ListN.{length, getD}
+use lib.ListN.{length, getD, drop}
 use Rattle.model.specs.Lists.{All}
 use Rattle.model.specs.Sheet.{Literal}
 use Rattle.model.specs.Consistency.{anyFalse, explore}
 use Rattle.theory.specs.Search.{satisfiedAt, satisfied, satisfiedFrom, waits, due}
-use Rattle.theory.specs.Nodes.{Filled}
+use Rattle.theory.specs.Nodes.{Filled, unset}
 use Rattle.clauses.specs.Bytes.{given}
 use Rattle.clauses.specs.Numbers.{variables, values, unassigned, satWords, usesWords}
 use Rattle.clauses.specs.Sets.{SetIs}
@@ -55,8 +55,12 @@ Starts m vals sat uses inDue inHeld = (cs : List (List Literal)) → Clauses cs 
 pub record NextFree (vals : List ℕ) (from v : ℕ) : Type 0 where
   pub after : from ≤ v
   pub upto : v ≤ length vals
-  pub set : (u : ℕ) → from ≤ u → u < v → getD vals u 0 ≡ unassigned → ⊥
+  pub assigned : (u : ℕ) → from ≤ u → u < v → getD vals u 0 ≡ unassigned → ⊥
   pub free : v < length vals → getD vals v 0 ≡ unassigned
+
+-- how many variables from v on are unassigned
+abbrev pub unsetFrom : List ℕ → ℕ → ℕ
+unsetFrom vals v = unset (drop v (map given vals))
 
 -- ---- the search at the variable v
 

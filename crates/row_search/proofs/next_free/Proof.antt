@@ -23,7 +23,7 @@ shared-slice-read-if1 c = omega arith
 returns : tie.Need-returns Inv-loop μ-loop
 returns c =
     let h = c .before .before .before .loop .inv in
-    record { after = h .0; upto = h .1; set = h .2; free = λ l. c .if1 .taken }
+    record { after = h .0; upto = h .1; assigned = h .2; free = λ l. c .if1 .taken }
 
 add-v : tie.Need-add-v Inv-loop μ-loop
 add-v c = omega arith
@@ -40,7 +40,7 @@ loop-again c =
 returns-2 : tie.Need-returns-2 Inv-loop μ-loop
 returns-2 c =
     let h = c .before .loop .inv in
-    record { after = h .0; upto = h .1; set = h .2; free = λ l. absurd (omega arith) }
+    record { after = h .0; upto = h .1; assigned = h .2; free = λ l. absurd (omega arith) }
 
 pub next-free-spec : {M : Type 1} → statement M
 next-free-spec =

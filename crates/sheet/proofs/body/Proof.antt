@@ -145,7 +145,7 @@ returns-4 c =
     let k = c .before .before .before .before in
     let pre = start (call (variables k)) .pre in (
       whole-read (clauses-read k) (was-step _ (c .enum-told .given .1) (c .before .before .ending .ensures _)),
-      record { some = pre .0; decisions = pre .1; states = pre .2; clauses = pre .3; lengths = variables-read (variables k) .lengths; room = clauses-read k .room },
+      record { at-least-one = pre .0; decisions = pre .1; states = pre .2; clauses = pre .3; lengths = variables-read (variables k) .lengths; room = clauses-read k .room },
     )
 
 pub body-spec : {M : Type 1} → statement M
