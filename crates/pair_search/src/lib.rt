@@ -30,7 +30,7 @@ ghost use Rattle.plan.specs.Plans.{inPlan, PlanFor, Searchable, Knows, afterwar
 ghost use Rattle.pair_search.specs.Found.{Found};
 
 // Goes through the unassigned variables from v on, with so many trials left. A number from TRIALS_BELOW on says that it did not fail.
-// Each descent leaves one variable fewer to set: `fewer` in trials/proofs/Descents.
+// Each descent leaves one variable fewer to set: the proof's measure, `leftToSet` in plan/specs/Plans.
 fn descend(sat: &Sat, plan: &mut Plan, first: u64, second: u64, v: usize, left: u32) -> u64
     requires { ⌜ Searchable (now plan) v ⌝ }
     ensures { λ r. ⌜ Found (now (sat .entry)) (now (plan .entry)) (inPair first second) v left (now (plan .exit)) (answerIn r) ⌝ }

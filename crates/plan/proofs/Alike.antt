@@ -9,7 +9,8 @@ use Rattle.model.specs.Sheet.{Literal}
 use Rattle.clauses.specs.Numbers.{variables, pairClauses}
 use Rattle.clauses.specs.Sets.{bit, inSet, Within}
 use Rattle.trials.specs.Searches.{Stands}
-use Rattle.plan.specs.Plans.{countPlace, notesBegin, rowAt, inPlan, SameBefore, PlanFor, Searchable, Alike}
+use Rattle.plan.specs.Plans.{countPlace, notesBegin, rowAt, inPlan, SameBefore, PlanFor, Searchable, leftToSet, Alike}
+use Rattle.plan.proofs.Rows.{left-unset}
 
 -- ---- the rows of the plan are the same
 
@@ -46,6 +47,10 @@ module _ {plan after : List ℕ} (s : SameBefore notesBegin plan after) where
 
   pub searchable-same : {v : ℕ} → Searchable plan v → Searchable after v
   searchable-same q = record { sizes = q .sizes; vals = q .vals; plans = plan-for-same (q .plans); long = s .long ∙ q .long }
+
+  -- and has as many variables left to set
+  pub left-same : {v : ℕ} → Searchable plan v → leftToSet after v ≡ leftToSet plan v
+  left-same q = left-unset (plan-for-same (q .plans)) ∙ sym (left-unset (q .plans))
 
   -- where a search stands by the one it stands by the other, with what is known
   pub stands-same : {Known Other : List (List Literal) → Type 0} {cs : List (List Literal)} (sat : List ℕ) {vals : List ℕ} {inHeld : ℕ → Bool} {v : ℕ} → length vals ≤ variables → Other cs

@@ -2,17 +2,20 @@
 use mathlib.Core.Path.{_≡_, sym, ap, _∙_}
 use mathlib.Core.Bool.{Bool}
 use mathlib.Core.List.{List}
-use Prim.Native.Nat.{ℕ, _+_, _<_, _≤_}
+use Prim.Native.Nat.{ℕ, zero, suc, _+_, _<_, _≤_}
 use native.Mathlib.Omega.{arith}
 use native.Mathlib.Decide.{ℕ-discrete}
+use borrow.Author.Tests.{eq-eqb, ne-eqb}
+use lib.Dec.{eqb}
 use lib.ListN.{length, getD, set, length-set}
 use lib.Seq.{getD-set-other, set-getD}
 use Rattle.model.specs.Sheet.{Literal}
 use Rattle.clauses.specs.Numbers.{variables, unassigned, pairClauses}
 use Rattle.trials.specs.declared.Answer.{Answer}
-use Rattle.trials.specs.Searches.{NextFree, Bytes, Searches}
+use Rattle.trials.specs.Searches.{NextFree, unsetFrom, Bytes, Searches}
+use Rattle.trials.proofs.Descents.{none-after, fewer as one-fewer}
 use Rattle.trials.proofs.Turns.{passed-over}
-use Rattle.plan.specs.Plans.{countPlace, planWords, rowAt, PlanFor, Searchable}
+use Rattle.plan.specs.Plans.{countPlace, planWords, rowAt, PlanFor, Searchable, along, leftToSet}
 use Rattle.plan.proofs.Plans.{free-same}
 
 module _ (sizes vals plan : List ℕ) (v : ℕ) (p : PlanFor sizes vals plan v) where
@@ -83,12 +86,37 @@ module _ (sizes vals plan : List ℕ) (v : ℕ) (p : PlanFor sizes vals plan v) 
       deeper-at Known inSat inDue inMore used limit after r = passed-over pairClauses Known sizes inSat inDue (set vals v x) (v + 1) (getD plan (rowAt v + 1) 0)
           (bytes-set (v + 1) (omega arith)) (next-set (v + 1) (getD plan (rowAt v + 1) 0) (omega arith) next-at) inMore used limit after r
 
+    -- without a trial it serves there too
+    pub plan-onward : PlanFor sizes vals plan (getD plan (rowAt v + 1) 0)
+    plan-onward = rw back at (plan-deeper unassigned)
+
+-- ---- the variables left to set
+
+-- the search along the plan has left to set what is unassigned from v on
+along-unset : (sizes vals plan : List ℕ) (n v : ℕ) → PlanFor sizes vals plan v → length vals ≤ v + n → along plan n v ≡ unsetFrom vals v
+unfolding along
+along-unset sizes vals plan zero v p h = sym (none-after vals v (omega arith))
+along-unset sizes vals plan (suc n) v p h = go (ℕ-discrete v (getD plan countPlace 0)) (along-unset sizes vals plan n)
+  where
+    go : Dec (v ≡ getD plan countPlace 0) → ((u : ℕ) → PlanFor sizes vals plan u → length vals ≤ u + n → along plan n u ≡ unsetFrom vals u) → along plan (suc n) v ≡ unsetFrom vals v
+    go (yes e) ih = rw (along, eq-eqb v (getD plan countPlace 0) e) (sym (none-after vals v (omega (arith, e, p .ends))))
+    go (no d) ih =
+        let below = before-end sizes vals plan v p d in
+        let next = next-at sizes vals plan v p below in
+        rw (along, ne-eqb v (getD plan countPlace 0) d, ih (getD plan (rowAt v + 1) 0) (plan-onward sizes vals plan v p below) (omega (arith, next .after)))
+        (one-fewer vals v (getD plan (rowAt v + 1) 0) next (free-v sizes vals plan v p below))
+
+-- and so of all
+pub left-unset : {sizes vals plan : List ℕ} {v : ℕ} → PlanFor sizes vals plan v → leftToSet plan v ≡ unsetFrom vals v
+unfolding leftToSet
+left-unset {sizes} {vals} {plan} {v} p = along-unset sizes vals plan variables v p (omega (arith, p .bytes .few, p .bytes .same))
+
 -- ---- what the code needs to know where variables are left
 
 pub record Inside (plan : List ℕ) (v : ℕ) : Type 0 where
   pub below : v < variables
   pub small : getD plan (rowAt v) 0 ≤ unassigned
-  pub onward : v < getD plan (rowAt v + 1) 0
+  pub fewer : leftToSet plan (getD plan (rowAt v + 1) 0) + 1 ≡ leftToSet plan v
   pub within : getD plan (rowAt v + 1) 0 ≤ variables
   pub deeper : Searchable plan (getD plan (rowAt v + 1) 0)
   pub long : length plan ≡ planWords
@@ -102,7 +130,7 @@ inside-here plan v s n =
     record {
       below = omega (arith, p .bytes .few);
       small = omega (arith, e, p .bytes .small v);
-      onward = omega (arith, f .after);
+      fewer = rw (left-unset p, left-unset (plan-onward (s .sizes) (s .vals) plan v p below)) (one-fewer (s .vals) v (getD plan (rowAt v + 1) 0) f (free-v (s .sizes) (s .vals) plan v p below));
       within = omega (arith, f .upto, p .bytes .same, p .bytes .few);
       deeper = record { sizes = s .sizes; vals = set (s .vals) v 0; plans = plan-deeper (s .sizes) (s .vals) plan v p below 0; long = s .long };
       long = s .long;

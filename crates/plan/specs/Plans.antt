@@ -2,14 +2,14 @@
 use mathlib.Core.Path.{_≡_}
 use mathlib.Core.Bool.{Bool, true, false}
 use mathlib.Core.List.{List, [], _∷_, map}
-use Prim.Native.Nat.{ℕ, _+_, _-_, _*_, _%_, _<_, _≤_}
+use Prim.Native.Nat.{ℕ, zero, suc, _+_, _-_, _*_, _%_, _<_, _≤_}
 use lib.Bits.{bitAnd}
 use lib.Dec.{eqb}
 use lib.ListN.{length, getD, set}
 use Rattle.model.specs.Sheet.{Literal}
 use Rattle.model.specs.Consistency.{inconsistent, explore}
 use Rattle.clauses.specs.Bytes.{given}
-use Rattle.clauses.specs.Numbers.{unassigned, pairClauses}
+use Rattle.clauses.specs.Numbers.{variables, unassigned, pairClauses}
 use Rattle.clauses.specs.Sets.{inWords, inSet}
 use Rattle.trials.specs.declared.Answer.{Answer}
 use Rattle.trials.specs.Answers.{trialsBelow}
@@ -88,6 +88,15 @@ pub record Searchable (plan : List ℕ) (v : ℕ) : Type 0 where
   pub vals : List ℕ
   pub plans : PlanFor sizes vals plan v
   pub long : length plan ≡ planWords
+
+-- how many variables a search along the plan has left to set from v on, of n at most: v itself, the next one in its row, and so on to the end
+unfoldable pub along : List ℕ → ℕ → ℕ → ℕ
+along plan zero v = 0
+along plan (suc n) v = elim (eqb v (getD plan countPlace 0)) [ true ↦ 0 | false ↦ along plan n (getD plan (rowAt v + 1) 0) + 1 ]
+
+-- all of them
+unfoldable pub leftToSet : List ℕ → ℕ → ℕ
+leftToSet plan v = along plan variables v
 
 -- of the clauses that a pair has room for, those that are needed are in one set where they are in the other
 pub record Alike (needs had other : ℕ → Bool) : Type 0 where

@@ -5,7 +5,7 @@ use mathlib.Core.List.{List, _∷_, map}
 use Prim.Native.Nat.{ℕ, zero, suc, _+_, _-_, _≤_, _<_}
 use native.Mathlib.Omega.{arith}
 use native.Mathlib.Numerals.{add-one}
-use lib.ListN.{length, getD, set, drop}
+use lib.ListN.{length, getD, set, drop, drop-of-length-le}
 use lib.Seq.{drop-cons}
 use Rattle.model.specs.Assignment.{Assignment}
 use Rattle.theory.specs.Nodes.{unset}
@@ -35,6 +35,10 @@ module _ (vals : List ℕ) where
   passes-all (suc n) v h d =
       let e : v + suc n ≡ v + 1 + n = omega arith in
       rw e (passes-all n (v + 1) (omega arith) (λ u a b. d u (omega arith) (omega arith))) ∙ passes v (omega arith) (d v (omega arith) (omega arith))
+
+  -- behind the last one none is left
+  pub none-after : (v : ℕ) → length vals ≤ v → unsetFrom vals v ≡ 0
+  none-after v h = rw (drop-of-length-le (map given vals) {i = v} (omega (arith, given-length vals)))
 
   -- from an unassigned variable v to the next one u, as along the plan: of those from u on one fewer is left to set
   pub fewer : (v u : ℕ) → NextFree vals (v + 1) u → getD vals v 0 ≡ unassigned → unsetFrom vals u + 1 ≡ unsetFrom vals v

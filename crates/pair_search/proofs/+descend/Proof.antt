@@ -8,11 +8,11 @@ use borrow.Author.Needs.{needs}
 use borrow.Fn.Kinds.{In}
 use borrow.Fn.PlainCycle.{Measures, is, falls, and}
 use lib.ListN.{getD, length-set}
-use Rattle.clauses.specs.Numbers.{variables, values, pairClauses}
+use Rattle.clauses.specs.Numbers.{values, pairClauses}
 use Rattle.clauses.specs.Sets.{inSet, inPair}
 use Rattle.trials.proofs.Endings.{in-inconsistent, not-failed, not-consistent, not-spent, few-consistent, few-spent, failed-few}
-use Rattle.plan.specs.Plans.{notesBegin, inPlan, SameBefore, Alike}
-use Rattle.plan.proofs.Alike.{same-refl, same-then, within-same, searchable-same, alike-same, alike-fewer, within-alike, alike-deeper}
+use Rattle.plan.specs.Plans.{notesBegin, inPlan, SameBefore, leftToSet, Alike}
+use Rattle.plan.proofs.Alike.{same-refl, same-then, within-same, searchable-same, left-same, alike-same, alike-fewer, within-alike, alike-deeper}
 use Rattle.plan.proofs.Notes.{needs-first, needs-left, needs-right}
 use Rattle.plan.proofs.Pairs.{pair-or, pair-within}
 use Rattle.plan.proofs.Rows.{Inside, inside-here}
@@ -31,7 +31,7 @@ use Rattle.pair_search.proofs.+descend.Tie.{close}
 
 -- each descent leaves one variable fewer to set
 abbrev μ-descend : Measures 2 descend-kinds.ps ℕ
-μ-descend κs a = variables - a .1 .1 .1 .1 .0
+μ-descend κs a = leftToSet (a .1 .0 .now) (a .1 .1 .1 .1 .0)
 
 abbrev descend-at : ℕ → In 2 descend-kinds.ps
 descend-at t = and 2 descend-kinds.ps (is 2 descend-kinds.ps μ-descend t) descend′.Pre
@@ -185,7 +185,7 @@ module _ (t : ℕ) where
   descend-covered-requires c κs = let i = c .before .before .before .before .before .before .loop .inv in omega (arith, i .0 .below, i .0 .long, i .1 .long)
 
   descend-descend-requires : descend-lts.Need-descend-requires (callees t) (descend-at t) descend′.Post descend-Inv-loop descend-μ-loop
-  descend-descend-requires c κs = let i = c .before .before .before .before .before .before .before .before .before .loop .inv in (omega (arith, i .0 .onward, i .0 .within), searchable-same (i .1) (i .0 .deeper))
+  descend-descend-requires c κs = let i = c .before .before .before .before .before .before .before .before .before .loop .inv in (omega (arith, i .0 .fewer, left-same (i .1) (i .0 .deeper)), searchable-same (i .1) (i .0 .deeper))
 
   descend-mul-plan : descend-lts.Need-mul-plan (callees t) (descend-at t) descend′.Post descend-Inv-loop descend-μ-loop
   descend-mul-plan c = omega (arith, head (c .before) .loop .inv .0 .below)

@@ -24,7 +24,7 @@ use Rattle.clauses.proofs.sets.joined.Reads as joined-reads
 use Rattle.row_search.proofs.+descend.{statement}
 use Rattle.row_search.proofs.+descend.Tie.{close}
 
--- each descent leaves one variable fewer to set
+-- the variables from `from` on; each descent sets the first unassigned one of them and begins behind it (`fewer-set` of trials/proofs/Descents)
 abbrev μ-descend : Measures 4 descend-kinds.ps ℕ
 μ-descend κs a = length (a .0 .now) - a .1 .1 .1 .1 .1 .0
 
