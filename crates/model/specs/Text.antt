@@ -48,9 +48,13 @@ lineFeed = bytes "\n"
 
 -- ---- lines
 
+-- the hexadecimal digits of a code
+abbrev pub codeDigits : ℕ
+codeDigits = 16
+
 -- rank, cost and code
 unfoldable pub stateLine : ℕ → Entry → List ℕ
-stateLine rank e = decimal rank ++ (space ++ (decimal (e .figure) ++ (space ++ (hexadecimal 16 (e .code) ++ lineFeed))))
+stateLine rank e = decimal rank ++ space ++ decimal (e .figure) ++ space ++ hexadecimal codeDigits (e .code) ++ lineFeed
 
 -- a line for each state, with ranks from this one on
 unfoldable pub stateLines : ℕ → List Entry → List ℕ
@@ -63,19 +67,26 @@ endingWord all = bytes "all "
 endingWord full = bytes "full "
 endingWord Ending.spent = bytes "spent "
 
--- ending, listed and the other counts
+-- listed, and the other counts with their names
+unfoldable pub countsLine : Counts → List ℕ
+countsLine c =
+    decimal (c .listed)
+    ++ bytes " tested "
+    ++ decimal (c .tested)
+    ++ bytes " learned "
+    ++ decimal (c .learned)
+    ++ bytes " unkept "
+    ++ decimal (c .unkept)
+    ++ bytes " trials "
+    ++ decimal (c .trials)
+    ++ lineFeed
+
+-- ending and counts
 unfoldable pub endingLine : Ending → Counts → List ℕ
-endingLine e c =
-    endingWord e
-    ++ (decimal (c .listed)
-    ++ (bytes " tested " ++ (decimal (c .tested)
-    ++ (bytes " learned " ++ (decimal (c .learned)
-    ++ (bytes " unkept " ++ (decimal (c .unkept)
-    ++ (bytes " trials " ++ (decimal (c .trials)
-    ++ lineFeed)))))))))
+endingLine e c = endingWord e ++ countsLine c
 
 unfoldable pub refusalLine : ℕ → List ℕ
-refusalLine n = bytes "refused " ++ (decimal n ++ lineFeed)
+refusalLine n = bytes "refused " ++ decimal n ++ lineFeed
 
 -- what is printed of a call
 unfoldable pub answerText : Answer → Buffers → List ℕ

@@ -4,6 +4,7 @@ pub mod BruteForce
 pub mod Children
 pub mod Containment
 pub mod Corollaries
+pub mod Decimal
 pub mod Demand3
 pub mod Descent
 pub mod Digits

@@ -2,7 +2,7 @@
 use mathlib.Core.Path.{_≡_}
 use mathlib.Core.Logic.{_⊎_}
 use mathlib.Core.List.{List, [], _∷_}
-use Prim.Native.Nat.{ℕ, _+_, _*_, _<_}
+use Prim.Native.Nat.{ℕ, _+_, _*_, _^_, _<_, _≤_}
 use Rattle.model.specs.Lists.{All}
 
 -- each is a digit of base b
@@ -19,3 +19,9 @@ abbrev pub Lex : List ℕ → List ℕ → Type 0
 Lex [] ys = ⊥
 Lex (x ∷ xs) [] = ⊥
 Lex (x ∷ xs) (y ∷ ys) = (x < y) ⊎ ((x ≡ y) × Lex xs ys)
+
+-- w is the fewest places, at least one, that hold n in base b
+pub record Fewest (b n w : ℕ) : Type 0 where
+  pub one : 1 ≤ w
+  pub holds : n < b ^ w
+  pub least : (v : ℕ) → 1 ≤ v → n < b ^ v → w ≤ v
