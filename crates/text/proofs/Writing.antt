@@ -1,0 +1,75 @@
+-- Laws of a buffer with a text put into it: one byte before the text, and one text after another. Assumes nothing.
+use mathlib.Core.Path.{_≡_, refl, sym, ap, ap₂, _∙_}
+use mathlib.Core.List.{List, [], _∷_, _++_, append-assoc, append-nil}
+use Prim.Native.Nat.{ℕ, suc, _+_, _-_, _≤_, _<_}
+use native.Mathlib.Omega.{arith}
+use native.Mathlib.Nat.{add-zero}
+use lib.ListN.{length, getD, take, drop, set, length-append, length-drop, take-append-drop}
+use lib.Seq.{length-take-le, take-suc, set-at, take-at, drop-append-add, drop-drop}
+use Rattle.text.specs.Written.{written, Puts}
+
+-- what stands before the rest is as long as it should be
+head-length : (place : ℕ) (text before : List ℕ) → place ≤ length before → length (take place before ++ text) ≡ place + length text
+head-length place text before h = rw (length-append (take place before) text, length-take-le place before h)
+
+-- the buffer stays as long as it was
+pub written-length : (place : ℕ) (text before : List ℕ) → place + length text ≤ length before → length (written place text before) ≡ length before
+unfolding written
+written-length place text before h = rw (length-append (take place before ++ text) (drop (place + length text) before), head-length place text before (omega arith), length-drop (place + length text) before) (omega arith)
+
+-- no text changes nothing
+pub written-none : (place : ℕ) (before : List ℕ) → written place [] before ≡ before
+unfolding written
+written-none place before = rw (append-nil (take place before), add-zero place) (take-append-drop place before)
+
+-- what is left n places past a first list
+drop-past : (xs ys : List ℕ) (m n : ℕ) → length xs ≡ m → drop (m + n) (xs ++ ys) ≡ drop n ys
+drop-past xs ys m n e = rw (← e) (drop-append-add xs ys n)
+
+-- one text put after another is the two put as one
+pub written-then : (place : ℕ) (s t before : List ℕ) → place ≤ length before → written (place + length s) t (written place s before) ≡ written place (s ++ t) before
+unfolding written
+written-then place s t before h =
+    let top = take place before ++ s in
+    let mid = place + length s in
+    let e : length top ≡ mid = head-length place s before h in
+    let end : mid + length t ≡ place + length (s ++ t) = omega (arith, length-append s t) in
+    rw (take-at top (drop mid before) mid e, drop-past top (drop mid before) mid (length t) e, drop-drop (length t) mid before, end, append-assoc (take place before) s t)
+
+-- a byte put before a text
+pub written-one : (place x : ℕ) (text before : List ℕ) → suc place + length text ≤ length before → set (written (suc place) text before) place x ≡ written place (x ∷ text) before
+unfolding written
+written-one place x text before h =
+    let top = take place before in
+    let old = getD before place 0 in
+    let rest = drop (suc place + length text) before in
+    let apart : take (suc place) before ++ text ++ rest ≡ top ++ (old ∷ (text ++ rest)) = rw (take-suc before place 0 (omega arith)) (simp append-assoc) in
+    let end : place + suc (length text) ≡ suc place + length text = omega arith in
+    rw (apart, set-at top old (text ++ rest) x place (length-take-le place before (omega arith)), end) (sym (append-assoc top (x ∷ text) rest))
+
+-- the same, of a text put at a place and i more
+pub written-back : (place i x : ℕ) (text longer before : List ℕ) → 0 < i → place + i + length text ≤ length before → longer ≡ x ∷ text
+    → set (written (place + i) text before) (place + (i - 1)) x ≡ written (place + (i - 1)) longer before
+written-back place i x text longer before p h e =
+    let f : place + i ≡ suc (place + (i - 1)) = omega arith in
+    rw (e, f) (written-one (place + (i - 1)) x text before (omega arith))
+
+-- ---- a run of texts
+
+-- a text was put at a place that has room for it
+pub record Put (place : ℕ) (text before : List ℕ) (next : ℕ) (after : List ℕ) : Type 0 where
+  pub room : place + length text ≤ length before
+  pub puts : Puts place text before next after
+
+-- one text after another
+pub then : {place mid next : ℕ} {s t before between after : List ℕ} → Put place s before mid between → Put mid t between next after → Put place (s ++ t) before next after
+then {place} {mid} {next} {s} {t} {before} {between} {after} p q =
+    let kept : length between ≡ length before = ap length (p .puts .0) ∙ written-length place s before (p .room) in
+    let joined : length (s ++ t) ≡ length s + length t = length-append s t in
+    record {
+      room = omega (arith, p .puts .1, q .room);
+      puts = (
+        q .puts .0 ∙ ap₂ (λ (k : ℕ) (b : List ℕ). written k t b) (p .puts .1) (p .puts .0) ∙ written-then place s t before (omega (arith, p .room)),
+        omega (arith, p .puts .1, q .puts .1),
+      );
+    }
