@@ -56,20 +56,18 @@ written-back place i x text longer before p h e =
 
 -- ---- a run of texts
 
--- a text was put at a place that has room for it
-pub record Put (place : ℕ) (text before : List ℕ) (next : ℕ) (after : List ℕ) : Type 0 where
-  pub room : place + length text ≤ length before
-  pub puts : Puts place text before next after
+-- no text
+pub puts-none : (place : ℕ) (before : List ℕ) → Puts place [] before place before
+puts-none place before = record { buffer = sym (written-none place before); ends = omega arith }
 
--- one text after another
-pub then : {place mid next : ℕ} {s t before between after : List ℕ} → Put place s before mid between → Put mid t between next after → Put place (s ++ t) before next after
-then {place} {mid} {next} {s} {t} {before} {between} {after} p q =
-    let kept : length between ≡ length before = ap length (p .puts .0) ∙ written-length place s before (p .room) in
-    let joined : length (s ++ t) ≡ length s + length t = length-append s t in
-    record {
-      room = omega (arith, p .puts .1, q .room);
-      puts = (
-        q .puts .0 ∙ ap₂ (λ (k : ℕ) (b : List ℕ). written k t b) (p .puts .1) (p .puts .0) ∙ written-then place s t before (omega (arith, p .room)),
-        omega (arith, p .puts .1, q .puts .1),
-      );
-    }
+module _ {place mid next : ℕ} {before between after : List ℕ} (within : place ≤ length before) where
+  -- a text after what was put
+  pub puts-then : {s t : List ℕ} → Puts place s before mid between → Puts mid t between next after → Puts place (s ++ t) before next after
+  puts-then {s} {t} p q = record {
+    buffer = q .buffer ∙ ap₂ (λ (k : ℕ) (b : List ℕ). written k t b) (p .ends) (p .buffer) ∙ written-then place s t before within;
+    ends = omega (arith, length-append s t);
+  }
+
+  -- two texts after what was put
+  pub puts-pair : (t u : List ℕ) {s : List ℕ} → Puts place s before mid between → Puts mid (t ++ u) between next after → Puts place (s ++ t ++ u) before next after
+  puts-pair t u {s} p q = rw (append-assoc s t u) (puts-then p q)

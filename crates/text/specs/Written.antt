@@ -9,5 +9,6 @@ unfoldable pub written : (place : ℕ) (text before : List ℕ) → List ℕ
 written place text before = take place before ++ text ++ drop (place + length text) before
 
 -- a text was put at a place: the whole buffer afterwards, and the place after the text
-abbrev pub Puts : (place : ℕ) (text before : List ℕ) (next : ℕ) (after : List ℕ) → Type 0
-Puts place text before next after = (after ≡ written place text before) × (next ≡ place + length text)
+pub record Puts (place : ℕ) (text before : List ℕ) (next : ℕ) (after : List ℕ) : Type 0 where
+  pub buffer : after ≡ written place text before
+  pub ends : next ≡ place + length text

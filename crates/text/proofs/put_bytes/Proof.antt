@@ -50,7 +50,7 @@ returns : tie.Need-returns Inv-loop μ-loop
 returns c =
     let h = c .before .loop in
     let s = c .before .before .args in
-    (bytes-end (s .at) (s .bytes .now) (s .out .now) (h .i) (h .out) (omega arith) (h .inv .2), refl)
+    record { buffer = bytes-end (s .at) (s .bytes .now) (s .out .now) (h .i) (h .out) (omega arith) (h .inv .2); ends = refl }
 
 pub put-bytes-spec : {M : Type 1} → statement M
 put-bytes-spec =

@@ -77,7 +77,7 @@ returns c =
     let h = c .before .loop in
     let s = c .before .before .before .args in
     let long : length (map digitByte (digits (s .base) (s .places) (s .n))) ≡ s .places = length-map (digits (s .base) (s .places) (s .n)) digitByte ∙ digits-length (s .base) (s .places) (s .n) in
-    (digits-end (s .at) (s .n) (s .base) (s .places) (s .out .now) (h .i) (h .rest) (h .out) (omega arith) (h .inv .2), omega arith)
+    record { buffer = digits-end (s .at) (s .n) (s .base) (s .places) (s .out .now) (h .i) (h .rest) (h .out) (omega arith) (h .inv .2); ends = omega arith }
 
 pub put-digits-spec : {M : Type 1} → statement M
 put-digits-spec =
