@@ -57,6 +57,10 @@ firstIsOne = 0x01 ∷ 0x10 ∷ 0x00 ∷ 0x08 ∷ 0x80 ∷ 0x00 ∷ 0x80 ∷ 0x01
 unfoldable pub nothingHolds : List ℕ
 nothingHolds = 0x01 ∷ 0x10 ∷ 0x00 ∷ 0x09 ∷ 0x00 ∷ 0x00 ∷ 0x00 ∷ 0x01 ∷ 0x00 ∷ 0x00 ∷ 0x00 ∷ 0x00 ∷ 0x08 ∷ 0x83 ∷ 0x00 ∷ []
 
+-- costs 1, 2 and 1, 1, 0 and 0; the third, which has one value, is not 0
+unfoldable pub thirdFails : List ℕ
+thirdFails = 0x01 ∷ 0x18 ∷ 0x00 ∷ 0x08 ∷ 0x80 ∷ 0x00 ∷ 0x80 ∷ 0x01 ∷ 0x10 ∷ 0x00 ∷ 0x08 ∷ 0x00 ∷ 0x08 ∷ 0x00 ∷ 0x00 ∷ 0x00 ∷ 0x00 ∷ 0x08 ∷ 0x50 ∷ []
+
 -- costs 0, 1; the variable is 1; the sheet ends on a byte's end, with no filler
 unfoldable pub noFiller : List ℕ
 noFiller = 0x01 ∷ 0x08 ∷ 0x00 ∷ 0x08 ∷ 0x80 ∷ 0x00 ∷ 0x00 ∷ 0x00 ∷ 0x88 ∷ 0x01 ∷ []
@@ -198,10 +202,13 @@ rooms =
     gives lists all [] [] (both ∷ 0x2000000000000000 ∷ selector ∷ 0 ∷ 0 ∷ 0 ∷ []) 1 1 0 7
     -- a conflict's members are taken from the lowest up: from the highest down the queue of two entries would be full
     ∷ plain firstIsOne 16 2 2 (both ∷ 0 ∷ []) 1000 gives lists all (0x1000000000000000 ∷ 0x1100000000000000 ∷ []) (4 ∷ 4 ∷ []) (both ∷ 0 ∷ selector ∷ 0 ∷ []) 3 1 0 2
+    -- a value for a variable that is no member resolves nothing: the nodes would be branched instead, and the queue of four entries full
+    ∷ plain thirdFails 16 4 2 (0xe000000000000000 ∷ 0x1100000000000000 ∷ 0x2000000000000000 ∷ 0 ∷ []) 1000
+    gives lists all [] [] (0xe000000000000000 ∷ 0x1100000000000000 ∷ 0x2000000000000000 ∷ 0 ∷ []) 0 0 0 0
     ∷ []
 
 pub rooms-are : answers rooms ≡ expected rooms
-unfolding rooms answers expected plain tail small oneOfSix twoOfSix nothingHolds firstIsOne three
+unfolding rooms answers expected plain tail small oneOfSix twoOfSix nothingHolds firstIsOne thirdFails three
 rooms-are = refl
 
 -- ---- order and sizes

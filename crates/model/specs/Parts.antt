@@ -3,16 +3,16 @@ use mathlib.Core.Path.{_≡_, refl}
 use mathlib.Core.Logic.{_⊎_}
 use mathlib.Core.Bool.{true, false}
 use mathlib.Core.Option.{none, some}
-use mathlib.Core.List.{List, [], _∷_, _++_}
+use mathlib.Core.List.{List, [], _∷_, _++_, map}
 use Prim.Native.Nat.{ℕ, _<_}
 use lib.Dec.{ltb}
 use lib.ListN.{length, getD, set}
 use Rattle.model.specs.Lists.{Some, Mem, All, Pairs, Begins, place, placeAll}
 use Rattle.model.specs.Digits.{number}
-use Rattle.model.specs.Sheet.{Literal, Plant, sizes}
+use Rattle.model.specs.Sheet.{Plant, sizes}
 use Rattle.model.specs.Assignment.{Assignment, Fits, Valid, Agree, isSome}
 use Rattle.model.specs.Consistency.{Tested, test, holdsAt, literalHolds, clauseHolds, allHold, overAll, Satisfies, Consistent}
-use Rattle.model.specs.Conflict.{Conflict, Minimal}
+use Rattle.model.specs.Conflict.{Conflict, Minimal, manifests, resolves}
 use Rattle.model.specs.Order.{Order, costThenCode, cheapest, best, product, every, orderOf, isConsistent, leadingStates, wholeSet}
 use Rattle.model.specs.Listing.{State, Ending, ended, resolving, branching, mostTested, spentInTest, judge}
 use Rattle.model.specs.Calls.{runList}
@@ -31,6 +31,33 @@ pub tested-below : (p : Plant) (o : Order) (k entries places limit : ℕ) (s : S
     → s .tested ≡ 4294967294 → test p limit n (s .trials) ≡ Tested.spent t → judge p o k entries places limit s rest n ≡ ended Ending.spent (spentInTest s t)
 unfolding judge
 tested-below p o k entries places limit s rest n t e h = let g : ltb (s .tested) mostTested ≡ true = rw e in rw (judge, g, h)
+
+-- ---- manifests and resolves
+
+-- both variables at 0; the first at 0; the first at 0 and the second at 1; the first at 1; neither assigned
+abbrev pub nodes : List Assignment
+nodes = (some 0 ∷ some 0 ∷ []) ∷ (some 0 ∷ none ∷ []) ∷ (some 0 ∷ some 1 ∷ []) ∷ (some 1 ∷ none ∷ []) ∷ (none ∷ none ∷ []) ∷ []
+
+-- the conflict of both at 0
+pub manifests-both : map (λ n. manifests n (some 0 ∷ some 0 ∷ [])) nodes ≡ true ∷ false ∷ false ∷ false ∷ false ∷ []
+manifests-both = refl
+
+pub resolves-both : map (λ n. resolves n (some 0 ∷ some 0 ∷ [])) nodes ≡ false ∷ false ∷ true ∷ true ∷ false ∷ []
+resolves-both = refl
+
+-- the conflict of the second at 0: what the first has is no matter
+pub manifests-second : map (λ n. manifests n (none ∷ some 0 ∷ [])) nodes ≡ true ∷ false ∷ false ∷ false ∷ false ∷ []
+manifests-second = refl
+
+pub resolves-second : map (λ n. resolves n (none ∷ some 0 ∷ [])) nodes ≡ false ∷ false ∷ true ∷ false ∷ false ∷ []
+resolves-second = refl
+
+-- the empty conflict: every node manifests it and none resolves it
+pub manifests-empty : map (λ n. manifests n (none ∷ none ∷ [])) nodes ≡ true ∷ true ∷ true ∷ true ∷ true ∷ []
+manifests-empty = refl
+
+pub resolves-empty : map (λ n. resolves n (none ∷ none ∷ [])) nodes ≡ false ∷ false ∷ false ∷ false ∷ false ∷ []
+resolves-empty = refl
 
 -- ---- children
 
