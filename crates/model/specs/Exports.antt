@@ -4,9 +4,9 @@ use mathlib.Core.List.{List, [], _∷_, map}
 use Prim.Native.Nat.{ℕ}
 use lib.ListN.{replicate}
 use Rattle.model.specs.Conflict.{reduceAlone}
-use Rattle.model.specs.Listing.{Ending, enough, all, full}
+use Rattle.model.specs.Listing.{enough, all, full}
 use Rattle.model.specs.Calls.{byHost, byAuthor, Called, wordGrounds, onWords, testCall, reduceCall, Exported, exportedOf, exportCall, testExport, reduceExport}
-use Rattle.model.specs.Examples.{Settings, Wanted, Row, _gives_, refusal, lists, strikes, call, lent, ranWith, whole, plain, tail, small, emptyClause, both, selector, three, asP1}
+use Rattle.model.specs.Examples.{Settings, Row, _gives_, refusal, lists, strikes, call, lent, ranWith, whole, plain, tail, small, emptyClause, both, selector, three, asP1}
 use Rattle.model.specs.Refusals.{edition2, lengths}
 
 -- ---- the listing

@@ -5,8 +5,7 @@ use Prim.Native.Nat.{ℕ}
 use lib.ListN.{take}
 use Rattle.model.specs.Lists.{valuesFrom}
 use Rattle.model.specs.Calls.{byHost, byAuthor}
-use Rattle.model.specs.Listing.{all}
-use Rattle.model.specs.Examples.{Settings, Row, _gives_, refusal, lists, answers, expected, plain, tail, small, both, damaged, seventeen, three, asP1}
+use Rattle.model.specs.Examples.{Settings, Row, _gives_, refusal, answers, expected, plain, tail, small, damaged, seventeen, three, asP1}
 
 -- ---- sheets
 
