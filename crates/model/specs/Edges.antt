@@ -29,6 +29,10 @@ oneValue = 0x01 ∷ 0x10 ∷ 0x00 ∷ 0x00 ∷ 0x00 ∷ 0x00 ∷ 0x08 ∷ 0x00 �
 unfoldable pub cheaperFirst : List ℕ
 cheaperFirst = 0x01 ∷ 0x10 ∷ 0x00 ∷ 0x00 ∷ 0x80 ∷ 0x00 ∷ 0x00 ∷ 0x00 ∷ 0x88 ∷ 0x00 ∷ 0x00 ∷ 0x00 ∷ 0x28 ∷ []
 
+-- decision variables with costs 0, 1 and with costs 5, 3, 0; no clauses
+unfoldable pub cheaperLast : List ℕ
+cheaperLast = 0x01 ∷ 0x10 ∷ 0x00 ∷ 0x00 ∷ 0x80 ∷ 0x00 ∷ 0x00 ∷ 0x00 ∷ 0x90 ∷ 0x00 ∷ 0x28 ∷ 0x00 ∷ 0x18 ∷ 0x00 ∷ 0x00 ∷ []
+
 -- a decision variable of three values, two of them forbidden
 unfoldable pub oneLeft : List ℕ
 oneLeft = 0x01 ∷ 0x08 ∷ 0x00 ∷ 0x11 ∷ 0x00 ∷ 0x00 ∷ 0x00 ∷ 0x00 ∷ 0x00 ∷ 0x00 ∷ 0x08 ∷ 0x11 ∷ 0x10 ∷ 0x24 ∷ []
@@ -220,6 +224,9 @@ shapes =
     -- a queued node comes before a child generated later
     ∷ plain cheaperFirst 16 8 4 [] 1000
     gives lists all (0 ∷ 0x1000000000000000 ∷ 0x0100000000000000 ∷ 0x1100000000000000 ∷ []) (0 ∷ 1 ∷ 5 ∷ 6 ∷ []) [] 4 0 0 0
+    -- a node's best state takes the cheapest value, here the last: {first = 1} comes before the states with the second at 0 or 1
+    ∷ plain cheaperLast 16 8 4 [] 1000
+    gives lists all (0x0200000000000000 ∷ 0x1200000000000000 ∷ 0x0100000000000000 ∷ 0x1100000000000000 ∷ 0 ∷ 0x1000000000000000 ∷ []) (0 ∷ 1 ∷ 3 ∷ 4 ∷ 5 ∷ 6 ∷ []) [] 6 0 0 0
     -- one variable, listed to the end: the run takes as many steps as a sheet allows
     ∷ plain oneVariable 16 8 4 [] 1000 gives lists all (0x1000000000000000 ∷ 0 ∷ 0x2000000000000000 ∷ []) (4 ∷ 5 ∷ 6 ∷ []) [] 3 0 0 0
     -- the lowest of two cheapest values counts: the node {second = 1}, with the best state 0 1, comes before the state 1 0
@@ -246,7 +253,7 @@ shapes =
     ∷ []
 
 pub shapes-are : answers shapes ≡ expected shapes
-unfolding shapes answers expected plain oneValue cheaperFirst oneVariable tied noFiller sixteenVariables thirtyTwoStates stateOfSixteen fifteenLiterals sixteenValues
+unfolding shapes answers expected plain oneValue cheaperFirst cheaperLast oneVariable tied noFiller sixteenVariables thirtyTwoStates stateOfSixteen fifteenLiterals sixteenValues
 shapes-are = refl
 
 -- what is listed, of sixteen variables of sixteen values with k 3
