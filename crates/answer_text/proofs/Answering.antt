@@ -1,5 +1,5 @@
 -- The text for a sheet is that of the listing call's answer, and what puts that text puts the sheet's. Assumes nothing.
-use mathlib.Core.Path.{_≡_, ap}
+use mathlib.Core.Path.{_≡_, ap, _∙_}
 use mathlib.Core.List.{List}
 use Prim.Native.Nat.{ℕ, _≤_}
 use native.Mathlib.Omega.{arith}
@@ -7,12 +7,13 @@ use lib.ListN.{length}
 use Rattle.model.specs.Calls.{Refusal, refusalNumber, Answer, refused, answered, Buffers, ran, listingCall}
 use Rattle.model.specs.Text.{wantedStates, trialLimit, programBuffers, answerText, refusalLine, leadingText}
 use Rattle.text.specs.Written.{written, Puts}
+use Rattle.text.proofs.Writing.{written-length}
 use Rattle.judge.specs.declared.Ending.{Ending}
 use Rattle.judge.specs.Standing.{endingOf}
 use Rattle.listing.specs.declared.Counts.{Counts}
 use Rattle.listing.specs.Listing.{countsOf}
 use Rattle.listing_call.specs.Calls.{shown}
-use Rattle.answer_text.specs.Lines.{runText, textBytes}
+use Rattle.answer_text.specs.Lines.{runText}
 
 -- the listing call as the program makes it shows this answer and these buffers
 abbrev pub Shows : List ℕ → Answer → Buffers → Type 0
@@ -33,6 +34,8 @@ unfolding answerText
 ran-text sheet e c after s = text-shown sheet (answered (ran (endingOf e) (countsOf c))) after s
 
 -- a text that was put from the start of the buffer
-pub puts-whole : {text whole before after : List ℕ} {next : ℕ} → whole ≡ text → length text ≤ textBytes → Puts 0 text before next after
-    → ((after ≡ written 0 whole before) × (next ≡ length whole)) × (next ≤ textBytes)
-puts-whole e h p = ((rw e (p .buffer), rw e (omega (arith, p .ends))), omega (arith, p .ends))
+pub puts-whole : {text whole before after : List ℕ} {next : ℕ} → whole ≡ text → length text ≤ length before → Puts 0 text before next after
+    → ((after ≡ written 0 whole before) × (next ≡ length whole)) × (next ≤ length after)
+puts-whole {text} {whole} {before} {after} {next} e h p =
+    let kept : length after ≡ length before = ap length (p .buffer) ∙ written-length 0 text before (omega arith) in
+    ((rw e (p .buffer), rw e (omega (arith, p .ends))), omega (arith, p .ends))

@@ -17,7 +17,7 @@ ghost use Rattle.text.specs.Written.{written, Puts};
 ghost use Rattle.refusal.specs.Refusal.{refusalOf};
 ghost use Rattle.judge.specs.Standing.{endingOf};
 ghost use Rattle.listing.specs.Listing.{countsOf};
-ghost use Rattle.answer_text.specs.Lines.{lineOf, linesOf, runText, textBytes};
+ghost use Rattle.answer_text.specs.Lines.{lineOf, linesOf, runText};
 
 // States wanted.
 const WANTED_STATES: usize = 16;
@@ -121,7 +121,7 @@ fn put_refusal(out: &mut [u8], r: Refusal) -> usize
 // Puts the text that is printed for a sheet, and answers with its length.
 pub fn leading_text(sheet: &[u8], out: &mut [u8; TEXT_BYTES]) -> usize
     ensures { λ r. ⌜ (now (out .exit) ≡ written 0 (leadingText (now (sheet .entry))) (now (out .entry))) × (r ≡ length (leadingText (now (sheet .entry)))) ⌝ }
-    ensures within { λ r. ⌜ r ≤ textBytes ⌝ }
+    ensures within { λ r. ⌜ r ≤ length (now (out .exit)) ⌝ }
 {
     let mut codes = [0u64; WANTED_STATES];
     let mut costs = [0u32; WANTED_STATES];

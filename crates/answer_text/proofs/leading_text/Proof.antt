@@ -64,7 +64,7 @@ returns c =
     let after = buffers (last .0) (last .1 .0) (last .1 .1 .0) (last .1 .1 .1 .0) in
     puts-whole
     (refused-text sheet (refusalOf (r .0 .0)) after (rw (r .1) at (called .list .ensures .0)))
-    (refusal-most (refusalNumber (refusalOf (r .0 .0))))
+    (omega (arith, refusal-most (refusalNumber (refusalOf (r .0 .0)))))
     (c .put-refusal .ensures)
 
 returns-2 : tie.Need-returns-2
@@ -78,7 +78,7 @@ returns-2 c =
     let promised = rw (ran .1) at (called .list .ensures .1) in
     puts-whole
     (ran-text sheet (ran .0 .0) (ran .0 .1 .0) after (rw (ran .1) at (called .list .ensures .0)))
-    (run-most (last .0) (last .1 .0) (ran .0 .0) (ran .0 .1 .0) (promised .3 .at-most-k))
+    (omega (arith, run-most (last .0) (last .1 .0) (ran .0 .0) (ran .0 .1 .0) (promised .3 .at-most-k)))
     (c .put-run .ensures)
 
 pub leading-text-spec : {M : Type 1} → statement M
