@@ -101,22 +101,22 @@ module _ (table held : List ℕ) (row : ℕ) where
 
 -- ---- a row within a set and another row
 
-module _ (table set other : List ℕ) (row at′ : ℕ) where
+module _ (table held other : List ℕ) (row at′ : ℕ) where
   -- by the set with the other row added
-  pub covers-joined : (more : List ℕ) (r : Bool) → Joined set other at′ true more → Covers table row (inSet more 0) r
-      → Covers table row (λ c. inSet set 0 c || inSet other at′ c) r
+  pub covers-joined : (more : List ℕ) (r : Bool) → Joined held other at′ true more → Covers table row (inSet more 0) r
+      → Covers table row (λ c. inSet held 0 c || inSet other at′ c) r
   covers-joined more r j d = record {
     all = λ e c h i. sym (j .has c h) ∙ d .all e c h i;
     only = λ f. d .only (λ c h i. j .has c h ∙ f c h i);
   }
 
   -- then the first word has no bit that the two have not
-  pub first-inside : ((c : ℕ) → c < 512 → inSet table row c ≡ true → (inSet set 0 c || inSet other at′ c) ≡ true) → getD table (row * 8) 0 < 2 ^ 64
-      → bitAnd (getD table (row * 8) 0) (bitOr (getD set 0 0) (getD other (at′ * 8) 0)) ≡ getD table (row * 8) 0
+  pub first-inside : ((c : ℕ) → c < 512 → inSet table row c ≡ true → (inSet held 0 c || inSet other at′ c) ≡ true) → getD table (row * 8) 0 < 2 ^ 64
+      → bitAnd (getD table (row * 8) 0) (bitOr (getD held 0 0) (getD other (at′ * 8) 0)) ≡ getD table (row * 8) 0
   first-inside f b =
-      and-within 64 (getD table (row * 8) 0) (bitOr (getD set 0 0) (getD other (at′ * 8) 0)) b
-      (λ k l i. bit-or (getD set 0 0) (getD other (at′ * 8) 0) k
-      ∙ sym (ap₂ _||_ (low set 0 k l) (low other at′ k l)) ∙ f k (omega arith) (low table row k l ∙ i))
+      and-within 64 (getD table (row * 8) 0) (bitOr (getD held 0 0) (getD other (at′ * 8) 0)) b
+      (λ k l i. bit-or (getD held 0 0) (getD other (at′ * 8) 0) k
+      ∙ sym (ap₂ _||_ (low held 0 k l) (low other at′ k l)) ∙ f k (omega arith) (low table row k l ∙ i))
     where
       low : (xs : List ℕ) (r k : ℕ) → k < 64 → inSet xs r k ≡ bit (getD xs (r * 8) 0) k
       low xs r k l =

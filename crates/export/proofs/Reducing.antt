@@ -33,7 +33,7 @@ by-words conflict result (answered (reduced (Reduced.spent t))) = refl
 module _ (sheet : List ℕ) (mask values limit : ℕ) (conflict result : List ℕ) where
   pub reduce-short : (ltb (length conflict) 2 || ltb (length result) 2) ≡ true → (reduceExport sheet mask values limit conflict result ≡ (2, conflict, result)) × ReduceTells sheet mask values 2 conflict result
   unfolding reduceExport
-  reduce-short h = (rw (reduceExport, h), record { none = λ e. absurd (omega arith); inconsistent = λ e. absurd (omega arith); minimal = λ e. absurd (omega arith) })
+  reduce-short h = (rw (reduceExport, h), record { consistent = λ e. absurd (omega arith); inconsistent = λ e. absurd (omega arith); minimal = λ e. absurd (omega arith) })
 
   module _ (h : (ltb (length conflict) 2 || ltb (length result) 2) ≡ false) where
     pub conflict-long : 2 ≤ length conflict
@@ -50,17 +50,17 @@ module _ (sheet : List ℕ) (mask values limit : ℕ) (conflict result : List �
     tells : (q : ReduceAnswer) → reduceOf q ≡ onAnswer worded (reduceCall sheet mask values limit) → ReduceRight sheet mask values q
         → ReduceTells sheet mask values ((written conflict result (reduceOf q)) .0) ((written conflict result (reduceOf q)) .1) ((written conflict result (reduceOf q)) .2)
     tells (ReduceAnswer.Refused r) e right = record {
-      none = λ z _ p end h. absurd (reduce-refusal sheet mask values limit r e p end h z);
+      consistent = λ z _ p end h. absurd (reduce-refusal sheet mask values limit r e p end h z);
       inconsistent = λ z _ p end h. absurd (reduce-refusal sheet mask values limit r e p end h z);
       minimal = λ z _ p end h. absurd (reduce-refusal sheet mask values limit r e p end h z);
     }
-    tells (ReduceAnswer.None t) e right = record { none = λ _ _. right; inconsistent = λ _ w. absurd (omega (arith, w)); minimal = λ _ w. absurd (omega (arith, w)) }
+    tells (ReduceAnswer.None t) e right = record { consistent = λ _ _. right; inconsistent = λ _ w. absurd (omega (arith, w)); minimal = λ _ w. absurd (omega (arith, w)) }
     tells (ReduceAnswer.Conflict m x t) e right = record {
-      none = λ _ w. absurd (omega (arith, w));
+      consistent = λ _ w. absurd (omega (arith, w));
       inconsistent = λ _ _ p end h. right p end h .0;
       minimal = λ _ _ p end h. right p end h .1;
     }
-    tells (ReduceAnswer.Spent t) e right = record { none = λ _ w. absurd (omega (arith, w)); inconsistent = λ _ w. absurd (omega (arith, w)); minimal = λ _ w. absurd (omega (arith, w)) }
+    tells (ReduceAnswer.Spent t) e right = record { consistent = λ _ w. absurd (omega (arith, w)); inconsistent = λ _ w. absurd (omega (arith, w)); minimal = λ _ w. absurd (omega (arith, w)) }
 
     pub reduce-exported : (r : ReduceAnswer) → reduceOf r ≡ onAnswer worded (reduceCall sheet mask values limit) → ReduceRight sheet mask values r → (q : ReduceAnswer) → r ≡ q
         → {n : ℕ} {found after : List ℕ} → n ≡ (written conflict result (reduceOf q)) .0 → found ≡ (written conflict result (reduceOf q)) .1 → after ≡ (written conflict result (reduceOf q)) .2

@@ -45,6 +45,6 @@ ReducedTo mask values p a = (c : Assignment) × Words c mask values × Minimal p
 
 -- and so does that of the reduction: 1 that the assignment is consistent, 2 that it is not, and that the words of the conflict are those of a minimal one that it contains
 pub record ReduceTells (sheet : List ℕ) (mask values returned : ℕ) (conflict result : List ℕ) : Type 0 where
-  pub none : returned ≡ 0 → getD result 0 0 ≡ 1 → OfSheet sheet mask values Consistent
+  pub consistent : returned ≡ 0 → getD result 0 0 ≡ 1 → OfSheet sheet mask values Consistent
   pub inconsistent : returned ≡ 0 → getD result 0 0 ≡ 2 → OfSheet sheet mask values (λ p a. Consistent p a → ⊥)
   pub minimal : returned ≡ 0 → getD result 0 0 ≡ 2 → OfSheet sheet mask values (ReducedTo (getD conflict 0 0) (getD conflict 1 0))
