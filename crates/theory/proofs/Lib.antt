@@ -14,6 +14,7 @@ pub mod Filled
 pub mod Impostors
 pub mod Listing
 pub mod Lists
+pub mod Longest
 pub mod Moves
 pub mod Nodes
 pub mod Order
