@@ -39,3 +39,4 @@ pub mod WordsDigits
 pub mod WordsParallel
 pub mod WordsSet
 pub mod WordsWide
+pub mod Written

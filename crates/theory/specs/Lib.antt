@@ -12,3 +12,4 @@ pub mod Search
 pub mod Tables
 pub mod TwoRuns
 pub mod Words
+pub mod Written
