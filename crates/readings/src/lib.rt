@@ -1,6 +1,6 @@
 // What the reader of a plant sheet goes by in all its parts: what reading a part comes to, how many bits a part has, and how
-// long the tables are that hold the largest plant. The definitions in `specs/Lengths` have the same names: `headBits` is
-// HEAD_BITS.
+// long the tables are that hold the largest plant. The definitions have the same names, in `specs/Lengths` and in the
+// theory's `specs/Longest`: `headBits` is HEAD_BITS.
 use limits::CLAUSES;
 use limits::DECISIONS;
 use limits::LITERALS;

@@ -3,7 +3,7 @@ use mathlib.Core.Path.{_≡_, sym, ap, _∙_, subst}
 use mathlib.Core.List.{List}
 use Prim.Native.Nat.{ℕ, _≤_}
 use Rattle.model.specs.Sheet.{Plant, Read, refused, edition1, readBody}
-use Rattle.readings.specs.Lengths.{headBits}
+use Rattle.theory.specs.Longest.{headBits}
 use Rattle.sheet.specs.Answers.{headOf, Allowed}
 use Rattle.sheet.specs.declared.Answer.{Answer}
 

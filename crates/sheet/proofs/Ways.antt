@@ -11,7 +11,7 @@ use lib.ListN.{length}
 use borrow.Author.Tests.{le-leb, lt-leb, eq-eqb, ne-eqb}
 use Rattle.model.specs.Sheet.{Read, refused, got, then, field, edition1, decisionsAllowed, readFiller, readEnd, readBody, readSheet, Plant, bitAt, bitsAt}
 use Rattle.model.specs.Digits.{number}
-use Rattle.readings.specs.Lengths.{headBits}
+use Rattle.theory.specs.Longest.{headBits}
 use Rattle.readings.proofs.Ways.{on, halt, pass, fail}
 
 -- the rule about decision variables

@@ -7,7 +7,8 @@ use lib.Seq.{take-add}
 use Rattle.model.specs.Sheet.{Read, refused, got, many, edition1, readClause, readEnd, Plant}
 use Rattle.theory.proofs.Sheet.{end-got}
 use Rattle.theory.specs.Tables.{rows, clauses, total, plantOf}
-use Rattle.readings.specs.Lengths.{variablesEnd, clauseBits, clauseBytes}
+use Rattle.theory.specs.Longest.{clauseBits}
+use Rattle.readings.specs.Lengths.{variablesEnd, clauseBytes}
 use Rattle.readings.proofs.Ways.{on, halt}
 use Rattle.sheet_variables.specs.Rest.{readRest}
 

@@ -4,7 +4,7 @@ use mathlib.Core.List.{List}
 use lib.ListN.{length}
 use Rattle.model.specs.Sheet.{Plant, Read, refused, got, edition1, readBody}
 use Rattle.theory.specs.Tables.{plantOf}
-use Rattle.readings.specs.Lengths.{headBits}
+use Rattle.theory.specs.Longest.{headBits}
 use Rattle.sheet.specs.Tables.{Held}
 use Rattle.sheet.specs.declared.Answer.{Answer}
 

@@ -8,7 +8,7 @@ use lib.Dec.{ltb}
 use lib.ListN.{length, getD}
 use borrow.Author.Tests.{lt-ltb, le-ltb}
 use Rattle.model.specs.Sheet.{Literal, Read, refused, got, then, field, edition1, readLiteral}
-use Rattle.readings.specs.Lengths.{literalBits}
+use Rattle.theory.specs.Longest.{literalBits}
 use Rattle.readings.proofs.Ways.{on, halt, pass, fail}
 
 -- a literal, whose fields stand at its place, 6 and 7 bits on: what has been read and is allowed

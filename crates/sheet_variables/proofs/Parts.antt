@@ -8,7 +8,8 @@ use lib.Seq.{length-take-le, drop-at}
 use borrow.Rule.Slice.PartMut.{putMid, take-put}
 use Rattle.model.specs.Sheet.{refused, got, many, edition1, readDecision, readState, readBody}
 use Rattle.theory.specs.Tables.{rows}
-use Rattle.readings.specs.Lengths.{headBits, decisionBits, stateBits, variablesEnd}
+use Rattle.theory.specs.Longest.{headBits, stateBits}
+use Rattle.readings.specs.Lengths.{decisionBits, variablesEnd}
 use Rattle.readings.specs.Answers.{stepOf, Onward}
 use Rattle.readings.specs.declared.Step.{Step}
 use Rattle.readings.proofs.Tables.{given-back}

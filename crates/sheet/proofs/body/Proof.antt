@@ -6,7 +6,7 @@ use mathlib.Core.List.{List}
 use Prim.Native.Nat.{ℕ}
 use lib.Seq.{length-take-le}
 use Rattle.model.specs.Sheet.{edition1, readBody}
-use Rattle.readings.specs.Lengths.{headBits}
+use Rattle.theory.specs.Longest.{headBits}
 use Rattle.readings.proofs.Laws.{was-step, no-step, onward}
 use Rattle.sheet_variables.proofs.Laws.{variables-next, variables-refused}
 use Rattle.sheet.proofs.Whole.{VariablesRead, ClausesRead, no-clauses, no-end, whole-read}

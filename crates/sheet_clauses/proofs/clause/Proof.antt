@@ -8,7 +8,7 @@ use Rattle.model.specs.Sheet.{edition1, readLiteral, readClause, got}
 use Rattle.theory.proofs.Sheet.{field-got}
 use Rattle.theory.specs.Tables.{literals}
 use Rattle.sheet_clauses.proofs.Tables.{literals-write}
-use Rattle.readings.specs.Lengths.{literalBits}
+use Rattle.theory.specs.Longest.{literalBits}
 use Rattle.readings.proofs.Laws.{Reading, turn, stop, done, was-value, was-past}
 use Rattle.sheet_clauses.proofs.Laws.{was-literal, no-literal, clause-got, clause-past}
 use Rattle.sheet_clauses.proofs.clause.Statement.{statement}

@@ -6,7 +6,8 @@ use native.Mathlib.Omega.{arith}
 use lib.ListN.{length, take, set, length-set, length-take, length-drop}
 use Rattle.model.specs.Sheet.{edition1, many, readClause, got}
 use Rattle.theory.specs.Tables.{clauses, total}
-use Rattle.readings.specs.Lengths.{clauseBits, clauseBytes}
+use Rattle.theory.specs.Longest.{clauseBits}
+use Rattle.readings.specs.Lengths.{clauseBytes}
 use Rattle.readings.proofs.Tables.{take-write}
 use Rattle.sheet_clauses.proofs.Tables.{clauses-write, total-snoc}
 use Rattle.readings.proofs.Laws.{Reading, begin, turn, stop, done, was-item, no-item, within}

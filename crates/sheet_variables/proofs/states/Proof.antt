@@ -6,7 +6,7 @@ use native.Mathlib.Omega.{arith}
 use lib.ListN.{length, take, length-set}
 use Rattle.model.specs.Sheet.{edition1, many, readState, got}
 use Rattle.theory.proofs.Sheet.{field-got}
-use Rattle.readings.specs.Lengths.{stateBits}
+use Rattle.theory.specs.Longest.{stateBits}
 use Rattle.readings.proofs.Tables.{take-write}
 use Rattle.readings.proofs.Laws.{Reading, begin, turn, stop, done, was-value, was-past}
 use Rattle.sheet_variables.proofs.Laws.{state-got, state-past}
