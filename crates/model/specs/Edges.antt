@@ -201,6 +201,9 @@ rooms =
     ∷ plain twoOfSix 16 4 4 [] 1000
     gives lists all (0x1200000000000000 ∷ 0x1000000000000000 ∷ []) (3 ∷ 5 ∷ []) (selector ∷ 0 ∷ second ∷ 0x0100000000000000 ∷ []) 4 2 0 5
     ∷ plain twoOfSix 16 3 4 [] 1000 gives lists full [] [] [] 0 0 0 0
+    -- children that manifest a stored conflict are not put in: with them the queue of two entries would be full at the next node
+    ∷ plain oneOfSix 16 2 4 (second ∷ 0x0100000000000000 ∷ second ∷ 0x0200000000000000 ∷ []) 1000
+    gives lists all (0x1000000000000000 ∷ []) (3 ∷ []) (second ∷ 0x0100000000000000 ∷ second ∷ 0x0200000000000000 ∷ selector ∷ 0 ∷ []) 2 1 0 2
     -- the first unresolved conflict is taken: of the second's children there would be two, for a queue of one entry
     ∷ plain nothingHolds 16 1 3 (both ∷ 0x2000000000000000 ∷ selector ∷ 0 ∷ []) 1000
     gives lists all [] [] (both ∷ 0x2000000000000000 ∷ selector ∷ 0 ∷ 0 ∷ 0 ∷ []) 1 1 0 7
