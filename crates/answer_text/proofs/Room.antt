@@ -13,7 +13,7 @@ use Rattle.judge.specs.declared.Ending.{Ending as Ended}
 use Rattle.judge.specs.Standing.{endingOf}
 use Rattle.listing.specs.declared.Counts.{Counts as Tallies}
 use Rattle.listing.specs.Listing.{countsOf}
-use Rattle.answer_text.specs.Lines.{linesOf, runText, lineBytes, textBytes}
+use Rattle.answer_text.specs.Lines.{linesOf, runText, lineBytes, wordBytes, countsBytes, textBytes}
 use Rattle.answer_text.proofs.Lines.{line-length, counts-length, refusal-length, run-length}
 
 -- a state's line
@@ -32,15 +32,15 @@ entries-most [] ds = omega arith
 entries-most (c ∷ cs) [] = omega arith
 entries-most (c ∷ cs) (d ∷ ds) = omega (arith, entries-most cs ds)
 
--- the longest word of an ending is "enough "
-word-most : (e : Ending) → length (endingWord e) ≤ 7
+-- an ending's word
+word-most : (e : Ending) → length (endingWord e) ≤ wordBytes
 word-most enough = omega arith
 word-most all = omega arith
 word-most full = omega arith
 word-most Ending.spent = omega arith
 
 -- the counts
-counts-most : (c : Counts) → length (countsLine c) ≤ 134
+counts-most : (c : Counts) → length (countsLine c) ≤ countsBytes
 counts-most c = omega (arith, counts-length c, decimal-most (c .listed), decimal-most (c .tested), decimal-most (c .learned), decimal-most (c .unkept), decimal-most (c .trials))
 
 -- a run's text

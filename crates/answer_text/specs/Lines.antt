@@ -27,10 +27,14 @@ runText codes costs e c = linesOf codes costs (c .listed) ++ endingLine (endingO
 abbrev pub lineBytes : ℕ
 lineBytes = mostDecimals + mostDecimals + codeDigits + 3
 
--- the bytes of the ending's line at most: the longest word, five counts, four names and a line feed
-abbrev pub endingBytes : ℕ
-endingBytes = 7 + 5 * mostDecimals + 33 + 1
+-- the bytes of an ending's word at most
+abbrev pub wordBytes : ℕ
+wordBytes = 7
+
+-- the bytes of the counts at most: five numbers, four names and a line feed
+abbrev pub countsBytes : ℕ
+countsBytes = 5 * mostDecimals + 33 + 1
 
 -- the bytes of the text at most
 abbrev pub textBytes : ℕ
-textBytes = wantedStates * lineBytes + endingBytes
+textBytes = wantedStates * lineBytes + wordBytes + countsBytes

@@ -12,3 +12,7 @@ written place text before = take place before ++ text ++ drop (place + length te
 pub record Puts (place : ℕ) (text before : List ℕ) (next : ℕ) (after : List ℕ) : Type 0 where
   pub buffer : after ≡ written place text before
   pub ends : next ≡ place + length text
+
+-- the greatest base whose digits have bytes
+abbrev pub greatestBase : ℕ
+greatestBase = 16

@@ -7,7 +7,7 @@ ghost use lib.ListN.{length};
 ghost use Rattle.model.specs.Digits.{digits};
 ghost use Rattle.model.specs.Text.{digitByte, decimal, hexadecimal};
 ghost use Rattle.theory.specs.Digits.{Fewest};
-ghost use Rattle.text.specs.Written.{Puts};
+ghost use Rattle.text.specs.Written.{Puts, greatestBase};
 
 // The two bases.
 const DECIMAL: u64 = 10;
@@ -29,7 +29,7 @@ pub fn put_bytes(out: &mut [u8], at: usize, bytes: &[u8]) -> usize
 
 // The byte of a digit: 0 to 9, then a to f.
 fn digit_byte(d: u64) -> u8
-    requires { ⌜ d < 16 ⌝ }
+    requires { ⌜ d < greatestBase ⌝ }
     ensures { λ r. ⌜ r ≡ digitByte d ⌝ }
 {
     if d < DECIMAL {
@@ -41,7 +41,7 @@ fn digit_byte(d: u64) -> u8
 
 // Puts the digits of a number at its lowest places, from the last one back.
 fn put_digits(out: &mut [u8], at: usize, n: u64, base: u64, places: usize) -> usize
-    requires { ⌜ (0 < base) × (base ≤ 16) × (at + places ≤ length (now out)) ⌝ }
+    requires { ⌜ (0 < base) × (base ≤ greatestBase) × (at + places ≤ length (now out)) ⌝ }
     ensures { λ r. ⌜ Puts at (map digitByte (digits base places n)) (now (out .entry)) r (now (out .exit)) ⌝ }
 {
     let mut rest = n;

@@ -58,10 +58,8 @@ put-named-requires-4 c κs =
     let tested = learned .before .before .before .before .before .before in
     let listed = tested .before .before .before .before .before .before in
     let start = listed .before .before .before .before in
-    let unkept-kept : length (unkept .put-named3 .last .0) ≡ length (learned .put-named2 .last .0) = unkept .put-named3 .kept .0 in
-    let learned-kept : length (learned .put-named2 .last .0) ≡ length (tested .put-named .last .0) = learned .put-named2 .kept .0 in
-    let tested-kept : length (tested .put-named .last .0) ≡ length (listed .put-decimal .last .0) = tested .put-named .kept .0 in
-    let listed-kept : length (listed .put-decimal .last .0) ≡ length (start .args .out .now) = listed .put-decimal .kept .0 in
+    let kept : length (unkept .put-named3 .last .0) ≡ length (start .args .out .now) =
+    unkept .put-named3 .kept .0 ∙ learned .put-named2 .kept .0 ∙ tested .put-named .kept .0 ∙ listed .put-decimal .kept .0 in
     let unkept-ends : unkept .put-named3 .result ≡ learned .put-named2 .result + length (bytes " unkept " ++ decimal (start .args .c .unkept)) = unkept .put-named3 .ensures .ends in
     let learned-ends : learned .put-named2 .result ≡ tested .put-named .result + length (bytes " learned " ++ decimal (start .args .c .learned)) = learned .put-named2 .ensures .ends in
     let tested-ends : tested .put-named .result ≡ listed .put-decimal .result + length (bytes " tested " ++ decimal (start .args .c .tested)) = tested .put-named .ensures .ends in
@@ -81,11 +79,8 @@ put-bytes-requires c κs =
     let tested = learned .before .before .before .before .before .before in
     let listed = tested .before .before .before .before .before .before in
     let start = listed .before .before .before .before in
-    let trials-kept : length (trials .put-named4 .last .0) ≡ length (unkept .put-named3 .last .0) = trials .put-named4 .kept .0 in
-    let unkept-kept : length (unkept .put-named3 .last .0) ≡ length (learned .put-named2 .last .0) = unkept .put-named3 .kept .0 in
-    let learned-kept : length (learned .put-named2 .last .0) ≡ length (tested .put-named .last .0) = learned .put-named2 .kept .0 in
-    let tested-kept : length (tested .put-named .last .0) ≡ length (listed .put-decimal .last .0) = tested .put-named .kept .0 in
-    let listed-kept : length (listed .put-decimal .last .0) ≡ length (start .args .out .now) = listed .put-decimal .kept .0 in
+    let kept : length (trials .put-named4 .last .0) ≡ length (start .args .out .now) =
+    trials .put-named4 .kept .0 ∙ unkept .put-named3 .kept .0 ∙ learned .put-named2 .kept .0 ∙ tested .put-named .kept .0 ∙ listed .put-decimal .kept .0 in
     let trials-ends : trials .put-named4 .result ≡ unkept .put-named3 .result + length (bytes " trials " ++ decimal (start .args .c .trials)) = trials .put-named4 .ensures .ends in
     let unkept-ends : unkept .put-named3 .result ≡ learned .put-named2 .result + length (bytes " unkept " ++ decimal (start .args .c .unkept)) = unkept .put-named3 .ensures .ends in
     let learned-ends : learned .put-named2 .result ≡ tested .put-named .result + length (bytes " learned " ++ decimal (start .args .c .learned)) = learned .put-named2 .ensures .ends in
@@ -103,12 +98,9 @@ same-length c =
     let tested = learned .before .before .before .before .before .before in
     let listed = tested .before .before .before .before .before .before in
     let start = listed .before .before .before .before in
-    let trials-kept : length (trials .put-named4 .last .0) ≡ length (unkept .put-named3 .last .0) = trials .put-named4 .kept .0 in
-    let unkept-kept : length (unkept .put-named3 .last .0) ≡ length (learned .put-named2 .last .0) = unkept .put-named3 .kept .0 in
-    let learned-kept : length (learned .put-named2 .last .0) ≡ length (tested .put-named .last .0) = learned .put-named2 .kept .0 in
-    let tested-kept : length (tested .put-named .last .0) ≡ length (listed .put-decimal .last .0) = tested .put-named .kept .0 in
-    let listed-kept : length (listed .put-decimal .last .0) ≡ length (start .args .out .now) = listed .put-decimal .kept .0 in
-    (c .before .before .put-bytes .kept .0) ∙ trials-kept ∙ unkept-kept ∙ learned-kept ∙ tested-kept ∙ listed-kept
+    let kept : length (trials .put-named4 .last .0) ≡ length (start .args .out .now) =
+    trials .put-named4 .kept .0 ∙ unkept .put-named3 .kept .0 ∙ learned .put-named2 .kept .0 ∙ tested .put-named .kept .0 ∙ listed .put-decimal .kept .0 in
+    c .before .before .put-bytes .kept .0 ∙ kept
 
 returns : tie.Need-returns
 unfolding countsLine

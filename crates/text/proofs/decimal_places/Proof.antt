@@ -18,13 +18,13 @@ add-places : tie.Need-add-places Inv-loop μ-loop
 add-places c = omega (arith, c .before .loop .inv .least 20 (omega arith) (omega arith))
 
 loop-less : tie.Need-loop-less Inv-loop μ-loop
-loop-less c = div-lt-self (c .loop-test .taken) (omega arith)
+loop-less c = div-lt-self (omega arith) (omega arith)
 
 loop-again : tie.Need-loop-again Inv-loop μ-loop
-loop-again c = let h = c .before .loop in places-step (c .before .before .args .n) (h .places) (h .rest) (c .loop-test .taken) (h .inv)
+loop-again c = let h = c .before .loop in places-step (c .before .before .args .n) (h .places) (h .rest) (omega arith) (h .inv)
 
 returns : tie.Need-returns Inv-loop μ-loop
-returns c = let h = c .before .loop in places-end (c .before .before .args .n) (h .places) (h .rest) (c .loop-test .left) (h .inv)
+returns c = let h = c .before .loop in places-end (c .before .before .args .n) (h .places) (h .rest) (omega arith) (h .inv)
 
 pub decimal-places-spec : {M : Type 1} → statement M
 decimal-places-spec =
