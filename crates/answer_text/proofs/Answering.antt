@@ -13,7 +13,7 @@ use Rattle.judge.specs.Standing.{endingOf}
 use Rattle.listing.specs.declared.Counts.{Counts}
 use Rattle.listing.specs.Listing.{countsOf}
 use Rattle.listing_call.specs.Calls.{shown}
-use Rattle.answer_text.specs.Lines.{runText}
+use Rattle.answer_text.specs.Room.{runText}
 
 -- the listing call as the program makes it shows this answer and these buffers
 abbrev pub Shows : List ℕ → Answer → Buffers → Type 0

@@ -1,11 +1,12 @@
 -- `answer_text::leading_text` meets its contract: the call's answer is the model's, and its lines are put. Assumes nothing.
+use mathlib.Core.Path.{sym, ap, _∙_}
 use native.Mathlib.Omega.{arith}
 use borrow.Author.Needs.{needs}
-use Rattle.model.specs.Calls.{refusalNumber}
-use Rattle.model.specs.Text.{programBuffers}
+use Rattle.model.specs.Text.{refusalLine, programBuffers}
+use Rattle.lines.proofs.Room.{refusal-most}
 use Rattle.refusal.specs.Refusal.{refusalOf}
 use Rattle.listing.specs.Listing.{buffers}
-use Rattle.answer_text.proofs.Room.{run-most, refusal-most}
+use Rattle.answer_text.proofs.Room.{run-most}
 use Rattle.answer_text.proofs.Answering.{refused-text, ran-text, puts-whole}
 use Rattle.answer_text.proofs.leading_text.Statement.{statement}
 use Rattle.answer_text.proofs.leading_text.Tie as tie
@@ -31,8 +32,11 @@ list-requires c κs = search needs
 enum-known-r : tie.Need-enum-known-r
 enum-known-r c = search needs
 
+number-requires : tie.Need-number-requires
+number-requires c κs = search needs
+
 put-refusal-requires : tie.Need-put-refusal-requires
-put-refusal-requires c κs = omega (arith, refusal-most (refusalNumber (refusalOf (c .before .before .r .given .0 .0))))
+put-refusal-requires c κs = omega (arith, refusal-most (c .number .result))
 
 enum-known-e : tie.Need-enum-known-e
 enum-known-e c = search needs
@@ -51,20 +55,21 @@ put-run-requires c κs =
     let last = called .list .last .1 .1 in (
       omega (arith, promised .3 .at-most-k),
       omega (arith, promised .3 .at-most-k),
-      omega (arith, run-most (last .0) (last .1 .0) (ran .0 .0) (ran .0 .1 .0) (promised .3 .at-most-k)),
+      omega (arith, run-most (last .0) (last .1 .0) (ran .0 .0) (ran .0 .1 .0) (omega (arith, promised .3 .at-most-k))),
     )
 
 returns : tie.Need-returns
 unfolding programBuffers
 returns c =
-    let called = c .before .before .before .before .before .before .before .before .before in
-    let r = c .before .before .before .r .given in
-    let sheet = c .before .before .before .before .before .before .before .before .before .before .before .before .before .before .before .args .sheet .now in
+    let called = c .before .before .before .before .before .before .before .before .before .before in
+    let r = c .before .before .before .before .r .given in
+    let number = c .before .number in
+    let sheet = c .before .before .before .before .before .before .before .before .before .before .before .before .before .before .before .before .args .sheet .now in
     let last = called .list .last .1 .1 in
     let after = buffers (last .0) (last .1 .0) (last .1 .1 .0) (last .1 .1 .1 .0) in
     puts-whole
-    (refused-text sheet (refusalOf (r .0 .0)) after (rw (r .1) at (called .list .ensures .0)))
-    (omega (arith, refusal-most (refusalNumber (refusalOf (r .0 .0)))))
+    (refused-text sheet (refusalOf (r .0 .0)) after (rw (r .1) at (called .list .ensures .0)) ∙ ap refusalLine (sym (number .ensures)))
+    (omega (arith, refusal-most (number .result)))
     (c .put-refusal .ensures)
 
 returns-2 : tie.Need-returns-2
@@ -78,7 +83,7 @@ returns-2 c =
     let promised = rw (ran .1) at (called .list .ensures .1) in
     puts-whole
     (ran-text sheet (ran .0 .0) (ran .0 .1 .0) after (rw (ran .1) at (called .list .ensures .0)))
-    (omega (arith, run-most (last .0) (last .1 .0) (ran .0 .0) (ran .0 .1 .0) (promised .3 .at-most-k)))
+    (omega (arith, run-most (last .0) (last .1 .0) (ran .0 .0) (ran .0 .1 .0) (omega (arith, promised .3 .at-most-k))))
     (c .put-run .ensures)
 
 pub leading-text-spec : {M : Type 1} → statement M
@@ -92,6 +97,7 @@ leading-text-spec =
     slice-aggregate-list-4
     list-requires
     enum-known-r
+    number-requires
     put-refusal-requires
     enum-known-e
     slice-aggregate-put-run

@@ -6,8 +6,8 @@ use Rattle.model.specs.Text.{endingWord, countsLine, endingLine}
 use Rattle.judge.specs.Standing.{endingOf}
 use Rattle.listing.specs.Listing.{countsOf}
 use Rattle.text.proofs.Writing.{puts-then}
-use Rattle.answer_text.specs.Lines.{linesOf}
-use Rattle.answer_text.proofs.Lines.{run-length}
+use Rattle.lines.specs.Lines.{linesOf}
+use Rattle.answer_text.proofs.Room.{run-length}
 use Rattle.answer_text.proofs.put_run.Statement.{statement}
 use Rattle.answer_text.proofs.put_run.Tie as tie
 

@@ -1,12 +1,12 @@
--- `answer_text::put_state` meets its contract: its five parts are put one after another. Assumes nothing.
+-- `lines::put_state` meets its contract: its five parts are put one after another. Assumes nothing.
 use native.Mathlib.Omega.{arith}
 use borrow.Author.Needs.{needs}
 use Rattle.model.specs.Text.{space, lineFeed, codeDigits, decimal, stateLine}
 use Rattle.theory.proofs.Decimal.{hexadecimal-length}
 use Rattle.text.proofs.Writing.{puts-then, puts-pair}
-use Rattle.answer_text.proofs.Lines.{line-length}
-use Rattle.answer_text.proofs.put_state.Statement.{statement}
-use Rattle.answer_text.proofs.put_state.Tie as tie
+use Rattle.lines.proofs.Lines.{line-length}
+use Rattle.lines.proofs.put_state.Statement.{statement}
+use Rattle.lines.proofs.put_state.Tie as tie
 
 put-decimal-requires : tie.Need-put-decimal-requires
 put-decimal-requires c κs = let s = c .before .before .args in omega (arith, line-length (s .rank) (s .cost) (s .code))

@@ -8,16 +8,12 @@ use lib.Seq.{drop-cons}
 use native.Mathlib.Nat.{sub-zero}
 use native.Mathlib.Numerals.{add-one}
 use Rattle.model.specs.Order.{Entry}
-use Rattle.model.specs.Calls.{Counts, entriesOf}
+use Rattle.model.specs.Calls.{entriesOf}
 use Rattle.model.specs.Text.{mostDecimals, decimal, hexadecimal, codeDigits, stateLine, stateLines, endingWord, countsLine, endingLine, refusalLine}
 use Rattle.theory.proofs.Decimal.{hexadecimal-length, decimal-most}
 use Rattle.text.specs.Written.{Puts}
 use Rattle.text.proofs.Writing.{puts-none, puts-then}
-use Rattle.judge.specs.declared.Ending.{Ending}
-use Rattle.judge.specs.Standing.{endingOf}
-use Rattle.listing.specs.declared.Counts.{Counts as Tallies}
-use Rattle.listing.specs.Listing.{countsOf}
-use Rattle.answer_text.specs.Lines.{lineOf, linesOf, runText, lineBytes}
+use Rattle.lines.specs.Lines.{lineOf, linesOf, countsOf}
 
 -- ---- lengths
 
@@ -27,19 +23,15 @@ unfolding stateLine
 line-length rank cost code = simp (length-append, hexadecimal-length)
 
 -- the counts' line: five numbers, four names and a line feed
-pub counts-length : (c : Counts) → length (countsLine c) ≡ length (decimal (c .listed)) + 8 + length (decimal (c .tested)) + 9 + length (decimal (c .learned)) + 8 + length (decimal (c .unkept)) + 8 + length (decimal (c .trials)) + 1
+pub counts-length : (listed tested learned unkept trials : ℕ) → length (countsOf listed tested learned unkept trials)
+    ≡ length (decimal listed) + 8 + length (decimal tested) + 9 + length (decimal learned) + 8 + length (decimal unkept) + 8 + length (decimal trials) + 1
 unfolding countsLine
-counts-length c = simp length-append
+counts-length listed tested learned unkept trials = simp length-append
 
 -- the refusal's line: the word, the number and a line feed
 pub refusal-length : (n : ℕ) → length (refusalLine n) ≡ 8 + length (decimal n) + 1
 unfolding refusalLine
 refusal-length n = simp length-append
-
--- a run's text
-pub run-length : (codes costs : List ℕ) (e : Ending) (c : Tallies) → length (runText codes costs e c) ≡ length (linesOf codes costs (c .listed)) + (length (endingWord (endingOf e)) + length (countsLine (countsOf c)))
-unfolding endingLine
-run-length codes costs e c = simp length-append
 
 -- ---- the lines of states
 

@@ -1,11 +1,11 @@
--- `answer_text::put_states` meets its contract. The loop's invariant: the lines before place i are put. Assumes nothing.
+-- `lines::put_states` meets its contract. The loop's invariant: the lines before place i are put. Assumes nothing.
 use Prim.Native.Nat.{_+_, _-_, _≤_}
 use mathlib.Core.Path.{_≡_, refl, _∙_}
 use native.Mathlib.Omega.{arith}
 use lib.ListN.{length}
-use Rattle.answer_text.proofs.Lines.{LinesTo, lines-start, lines-room, lines-step, lines-end}
-use Rattle.answer_text.proofs.put_states.Statement.{statement}
-use Rattle.answer_text.proofs.put_states.Tie as tie
+use Rattle.lines.proofs.Lines.{LinesTo, lines-start, lines-room, lines-step, lines-end}
+use Rattle.lines.proofs.put_states.Statement.{statement}
+use Rattle.lines.proofs.put_states.Tie as tie
 
 abbrev Inv-loop : tie.InvT-loop
 Inv-loop out₀ at codes costs listed next₀ i₀ out next i = (i ≤ listed) × (length out ≡ length out₀) × LinesTo at codes costs out₀ listed i next out

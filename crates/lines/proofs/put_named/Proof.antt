@@ -1,9 +1,9 @@
--- `answer_text::put_named` meets its contract: the number is put after the word. Assumes nothing.
+-- `lines::put_named` meets its contract: the number is put after the word. Assumes nothing.
 use native.Mathlib.Omega.{arith}
 use borrow.Author.Needs.{needs}
 use Rattle.text.proofs.Writing.{puts-then}
-use Rattle.answer_text.proofs.put_named.Statement.{statement}
-use Rattle.answer_text.proofs.put_named.Tie as tie
+use Rattle.lines.proofs.put_named.Statement.{statement}
+use Rattle.lines.proofs.put_named.Tie as tie
 
 put-bytes-requires : tie.Need-put-bytes-requires
 put-bytes-requires c κs = search needs
