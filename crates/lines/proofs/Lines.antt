@@ -1,7 +1,7 @@
 -- The lengths of lines, and the lines of states one after another. Assumes nothing.
-use mathlib.Core.Path.{_≡_, refl, sym, ap, _∙_}
+use mathlib.Core.Path.{_≡_, sym, ap, _∙_}
 use mathlib.Core.List.{List, [], _∷_, _++_, append-assoc, append-nil}
-use Prim.Native.Nat.{ℕ, zero, suc, _+_, _-_, _*_, _≤_, _<_}
+use Prim.Native.Nat.{ℕ, suc, _+_, _-_, _≤_, _<_}
 use native.Mathlib.Omega.{arith}
 use lib.ListN.{length, getD, take, drop, length-append}
 use lib.Seq.{drop-cons}
@@ -9,8 +9,8 @@ use native.Mathlib.Nat.{sub-zero}
 use native.Mathlib.Numerals.{add-one}
 use Rattle.model.specs.Order.{Entry}
 use Rattle.model.specs.Calls.{entriesOf}
-use Rattle.model.specs.Text.{mostDecimals, decimal, hexadecimal, codeDigits, stateLine, stateLines, endingWord, countsLine, endingLine, refusalLine}
-use Rattle.theory.proofs.Decimal.{hexadecimal-length, decimal-most}
+use Rattle.model.specs.Text.{decimal, codeDigits, stateLine, stateLines, countsLine, refusalLine}
+use Rattle.theory.proofs.Decimal.{hexadecimal-length}
 use Rattle.text.specs.Written.{Puts}
 use Rattle.text.proofs.Writing.{puts-none, puts-then}
 use Rattle.lines.specs.Lines.{lineOf, linesOf, countsOf}

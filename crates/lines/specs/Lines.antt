@@ -2,7 +2,7 @@
 use mathlib.Core.List.{List}
 use Prim.Native.Nat.{ℕ, _+_, _*_}
 use lib.ListN.{take}
-use Rattle.model.specs.Calls.{Counts, entriesOf}
+use Rattle.model.specs.Calls.{entriesOf}
 use Rattle.model.specs.Text.{mostDecimals, codeDigits, stateLine, stateLines, countsLine}
 
 -- the line of one state

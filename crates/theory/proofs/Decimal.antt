@@ -2,7 +2,7 @@
 use mathlib.Core.Path.{_≡_, refl, ap, _∙_}
 use mathlib.Core.Bool.{Bool, true, false}
 use mathlib.Core.List.{List, [], _∷_, map}
-use Prim.Native.Nat.{ℕ, zero, suc, _+_, _*_, _/_, _%_, _^_, _≤_, _<_}
+use Prim.Native.Nat.{ℕ, zero, suc, _*_, _/_, _%_, _^_, _≤_, _<_}
 use native.Mathlib.Omega.{arith}
 use native.Mathlib.Nat.{one-le-pow, pow-le-pow-right, pow-suc, pow-succ', lt-of-lt-of-le, div-eq-of-lt, zero-mod, le-div-iff-mul-le, div-lt-iff-lt-mul, div-div-eq-div-mul, mod-eq-of-lt}
 use native.Mathlib.Decide.{decLt}

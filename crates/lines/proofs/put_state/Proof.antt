@@ -1,7 +1,7 @@
 -- `lines::put_state` meets its contract: its five parts are put one after another. Assumes nothing.
 use native.Mathlib.Omega.{arith}
 use borrow.Author.Needs.{needs}
-use Rattle.model.specs.Text.{space, lineFeed, codeDigits, decimal, stateLine}
+use Rattle.model.specs.Text.{space, codeDigits, decimal, stateLine}
 use Rattle.theory.proofs.Decimal.{hexadecimal-length}
 use Rattle.text.proofs.Writing.{puts-then, puts-pair}
 use Rattle.lines.proofs.Lines.{line-length}

@@ -1,6 +1,6 @@
 -- `lines::put_states` meets its contract. The loop's invariant: the lines before place i are put. Assumes nothing.
-use Prim.Native.Nat.{_+_, _-_, _≤_}
-use mathlib.Core.Path.{_≡_, refl, _∙_}
+use Prim.Native.Nat.{_-_, _≤_}
+use mathlib.Core.Path.{_≡_, refl}
 use native.Mathlib.Omega.{arith}
 use lib.ListN.{length}
 use Rattle.lines.proofs.Lines.{LinesTo, lines-start, lines-room, lines-step, lines-end}

@@ -1,5 +1,5 @@
 -- `text::put_digits` meets its contract. The loop's invariant: the digits at the places from i on are put, and what is left holds those before them. Assumes nothing.
-use Prim.Native.Nat.{_+_, _-_, _%_, _≤_}
+use Prim.Native.Nat.{_+_, _-_, _≤_}
 use mathlib.Core.Path.{_≡_, refl, _∙_}
 use mathlib.Core.List.{map}
 use native.Mathlib.Omega.{arith}
