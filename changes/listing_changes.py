@@ -1,0 +1,163 @@
+"""Small changes of Listing."""
+
+from change import change
+
+# ---- Listing
+change("a conflict put in front", "Listing", "stored store c = store ++ (c ∷ [])", "stored store c = c ∷ store")
+change("a conflict replaces the store", "Listing", "stored store c = store ++ (c ∷ [])", "stored store c = c ∷ []")
+change("manifestsAny: the other way round", "Listing", "anyOf (manifests n) store", "anyOf (λ c. manifests c n) store")
+change("firstUnresolved: the last", "Listing", "elim (resolves n c) [ true ↦ firstUnresolved store n | false ↦ some c ]", "elim (firstUnresolved store n) [ some d ↦ some d | none ↦ elim (resolves n c) [ true ↦ none | false ↦ some c ] ]")
+change("firstUnresolved: only the first looked at", "Listing", "[ true ↦ firstUnresolved store n | false ↦ some c ]", "[ true ↦ none | false ↦ some c ]")
+change("firstUnresolved: never", "Listing", "[ true ↦ firstUnresolved store n | false ↦ some c ]", "[ true ↦ firstUnresolved store n | false ↦ none ]")
+change("an ill-formed offer ends step 1", "Listing", "| false ↦ checkOffers survivors offers used", "| false ↦ checked survivors used")
+change("an ill-formed offer breaks off", "Listing", "| false ↦ checkOffers survivors offers used", "| false ↦ brokenOff survivors used")
+change("an ill-formed offer drops those before", "Listing", "| false ↦ checkOffers survivors offers used", "| false ↦ checkOffers [] offers used")
+change("a consistent offer ends step 1", "Listing", "| consistent f t ↦ checkOffers survivors offers t", "| consistent f t ↦ checked survivors t")
+change("a consistent offer drops those before", "Listing", "| consistent f t ↦ checkOffers survivors offers t", "| consistent f t ↦ checkOffers [] offers t")
+change("a consistent offer's trials uncounted", "Listing", "| consistent f t ↦ checkOffers survivors offers t", "| consistent f t ↦ checkOffers survivors offers used")
+change("a consistent offer believed", "Listing", "| consistent f t ↦ checkOffers survivors offers t", "| consistent f t ↦ checkOffers (stored survivors c) offers t")
+change("an inconsistent offer's trials uncounted", "Listing", "| inconsistent t ↦ checkOffers (stored survivors c) offers t", "| inconsistent t ↦ checkOffers (stored survivors c) offers used")
+change("an inconsistent offer dropped", "Listing", "| inconsistent t ↦ checkOffers (stored survivors c) offers t", "| inconsistent t ↦ checkOffers survivors offers t")
+change("an inconsistent offer ends step 1", "Listing", "| inconsistent t ↦ checkOffers (stored survivors c) offers t", "| inconsistent t ↦ checked (stored survivors c) t")
+change("offers reduced", "Listing", "| inconsistent t ↦ checkOffers (stored survivors c) offers t", "| inconsistent t ↦ elim (reduce p limit c t) [ conflict d t′ ↦ checkOffers (stored survivors d) offers t′ | Reduced.spent t′ ↦ brokenOff survivors t′ ]")
+change("equal offers once", "Listing", "| inconsistent t ↦ checkOffers (stored survivors c) offers t", "| inconsistent t ↦ checkOffers (elim (anyOf (λ d. manifests c d) (keep (λ d. manifests d c) survivors)) [ true ↦ survivors | false ↦ stored survivors c ]) offers t")
+change("an offer that contains a survivor dropped", "Listing", "| inconsistent t ↦ checkOffers (stored survivors c) offers t", "| inconsistent t ↦ checkOffers (elim (manifestsAny survivors c) [ true ↦ survivors | false ↦ stored survivors c ]) offers t")
+change("survivors in front", "Listing", "| inconsistent t ↦ checkOffers (stored survivors c) offers t", "| inconsistent t ↦ checkOffers (c ∷ survivors) offers t")
+change("limit in step 1: survivors dropped", "Listing", "| Tested.spent t ↦ brokenOff survivors t", "| Tested.spent t ↦ brokenOff [] t")
+change("limit in step 1: the entry kept", "Listing", "| Tested.spent t ↦ brokenOff survivors t", "| Tested.spent t ↦ brokenOff (stored survivors c) t")
+change("limit in step 1: goes on", "Listing", "| Tested.spent t ↦ brokenOff survivors t", "| Tested.spent t ↦ checkOffers survivors offers t")
+change("limit in step 1: run goes on", "Listing", "| Tested.spent t ↦ brokenOff survivors t", "| Tested.spent t ↦ checked survivors t")
+change("limit in step 1: trials forgotten", "Listing", "| Tested.spent t ↦ brokenOff survivors t", "| Tested.spent t ↦ brokenOff survivors used")
+change("limit in step 1: all trials forgotten", "Listing", "| Tested.spent t ↦ brokenOff survivors t", "| Tested.spent t ↦ brokenOff survivors 0")
+change("offer well formed unchecked", "Listing", "elim (wellFormed (decisionSizes p) (o .mask) (o .values)) [", "elim true [")
+change("other values: all", "Listing", "keep (λ x. not (eqb x y)) (valuesFrom 0 s)", "valuesFrom 0 s")
+change("other values: greater ones", "Listing", "keep (λ x. not (eqb x y)) (valuesFrom 0 s)", "keep (λ x. ltb y x) (valuesFrom 0 s)")
+change("other values: the first", "Listing", "keep (λ x. not (eqb x y)) (valuesFrom 0 s)", "elim (keep (λ x. not (eqb x y)) (valuesFrom 0 s)) [ [] ↦ [] | x ∷ xs ↦ x ∷ [] ]")
+RES = "resolving (s ∷ ss) (none ∷ n) (some y ∷ c) = map (λ x. some x ∷ n) (otherValues y s) ++ map (λ m. some y ∷ m) (resolving ss n c)"
+change("step 4: children overlap", "Listing", RES, "resolving (s ∷ ss) (none ∷ n) (some y ∷ c) = map (λ x. some x ∷ n) (otherValues y s) ++ map (λ m. none ∷ m) (resolving ss n c)")
+change("step 4: first member only", "Listing", RES, "resolving (s ∷ ss) (none ∷ n) (some y ∷ c) = map (λ x. some x ∷ n) (otherValues y s)")
+change("step 4: members from the highest", "Listing", "-- step 4: for each unassigned member", """-- a node with its unassigned members at the conflict's values
+abbrev pub joined : Assignment → Assignment → Assignment
+joined [] c = []
+joined (o ∷ n) [] = o ∷ n
+joined (some x ∷ n) (d ∷ c) = some x ∷ joined n c
+joined (none ∷ n) (d ∷ c) = d ∷ joined n c
+
+-- step 4: for each unassigned member""", RES, "resolving (s ∷ ss) (none ∷ n) (some y ∷ c) = map (λ x. some x ∷ joined n c) (otherValues y s) ++ map (λ m. none ∷ m) (resolving ss n c)")
+change("step 4: members after at the conflict's values too", "Listing", "-- step 4: for each unassigned member", """-- a node with its unassigned members at the conflict's values
+abbrev pub joined : Assignment → Assignment → Assignment
+joined [] c = []
+joined (o ∷ n) [] = o ∷ n
+joined (some x ∷ n) (d ∷ c) = some x ∷ joined n c
+joined (none ∷ n) (d ∷ c) = d ∷ joined n c
+
+-- step 4: for each unassigned member""", RES, "resolving (s ∷ ss) (none ∷ n) (some y ∷ c) = map (λ x. some x ∷ joined n c) (otherValues y s) ++ map (λ m. some y ∷ m) (resolving ss n c)")
+change("step 4: stops at an assigned variable", "Listing", "resolving (s ∷ ss) (some x ∷ n) (d ∷ c) = map (λ m. some x ∷ m) (resolving ss n c)", "resolving (s ∷ ss) (some x ∷ n) (d ∷ c) = []")
+change("step 4: stops at a variable without a member", "Listing", "resolving (s ∷ ss) (none ∷ n) (none ∷ c) = map (λ m. none ∷ m) (resolving ss n c)", "resolving (s ∷ ss) (none ∷ n) (none ∷ c) = []")
+change("step 4: no unassigned member, the node again", "Listing", "resolving [] n c = []\n", "resolving [] n c = [] ∷ []\n")
+change("step 5: last value missing", "Listing", "branching (s ∷ ss) (none ∷ n) = map (λ x. some x ∷ n) (valuesFrom 0 s)", "branching (s ∷ ss) (none ∷ n) = map (λ x. some x ∷ n) (keep (λ x. ltb (suc x) s) (valuesFrom 0 s))")
+change("step 5: from 1", "Listing", "branching (s ∷ ss) (none ∷ n) = map (λ x. some x ∷ n) (valuesFrom 0 s)", "branching (s ∷ ss) (none ∷ n) = map (λ x. some x ∷ n) (otherValues 0 s)")
+change("step 5: the highest unassigned variable", "Listing", "branching (s ∷ ss) (none ∷ n) = map (λ x. some x ∷ n) (valuesFrom 0 s)", "branching (s ∷ ss) (none ∷ n) = elim (branching ss n) [ [] ↦ map (λ x. some x ∷ n) (valuesFrom 0 s) | m ∷ ms ↦ map (λ k. none ∷ k) (m ∷ ms) ]")
+change("queue: the worst first", "Listing", "ahead n m = o .before (best (o .preferred) n) (best (o .preferred) m)", "ahead n m = o .before (best (o .preferred) m) (best (o .preferred) n)")
+change("queue: by the node, not its best state", "Listing", "ahead n m = o .before (best (o .preferred) n) (best (o .preferred) m)", "ahead n m = o .before (valueList n) (valueList m)")
+change("queue: put in front", "Listing", "enqueueAll ns queue = placeAll ahead ns queue", "enqueueAll ns queue = ns ++ queue")
+change("queue: put behind", "Listing", "enqueueAll ns queue = placeAll ahead ns queue", "enqueueAll ns queue = queue ++ ns")
+change("leaveOff: those that do not manifest", "Listing", "keep (λ n. not (manifestsAny store n)) nodes", "keep (λ n. manifestsAny store n) nodes")
+change("leaveOff: none", "Listing", "keep (λ n. not (manifestsAny store n)) nodes", "nodes")
+LISTED = """  listed = s .listed ++ (f ∷ []);
+  tested = s .tested + 1;
+  learned = s .learned;
+  unkept = s .unkept;
+  trials = t;"""
+change("listed: in front", "Listing", "listed = s .listed ++ (f ∷ []);", "listed = f ∷ s .listed;")
+change("listed: test uncounted", "Listing", LISTED, LISTED.replace("s .tested + 1", "s .tested"))
+change("listed: trials forgotten", "Listing", LISTED, LISTED.replace("trials = t;", "trials = s .trials;"))
+change("listed: learned counted", "Listing", LISTED, LISTED.replace("s .learned;", "s .learned + 1;"))
+UNKEPT = """  tested = s .tested + 1;
+  learned = s .learned;
+  unkept = s .unkept + 1;
+  trials = t;"""
+change("unkept: uncounted", "Listing", UNKEPT, UNKEPT.replace("s .unkept + 1", "s .unkept"))
+change("unkept: test uncounted", "Listing", UNKEPT, UNKEPT.replace("s .tested + 1", "s .tested"))
+change("unkept: trials forgotten", "Listing", UNKEPT, UNKEPT.replace("trials = t;", "trials = s .trials;"))
+change("unkept: learned counted", "Listing", UNKEPT, UNKEPT.replace("s .learned;", "s .learned + 1;"))
+LEARNED = """  tested = s .tested + 1;
+  learned = s .learned + 1;
+  unkept = s .unkept;
+  trials = t;"""
+change("learned: queue nodes that manifest it stay", "Listing", "queue = leaveOff (c ∷ []) rest;", "queue = rest;")
+change("learned: queue emptied", "Listing", "queue = leaveOff (c ∷ []) rest;", "queue = [];")
+change("learned: not stored", "Listing", "store = stored (s .store) c;", "store = s .store;")
+change("learned: stored in front", "Listing", "store = stored (s .store) c;", "store = c ∷ s .store;")
+change("learned: stored in place of all", "Listing", "store = stored (s .store) c;", "store = c ∷ [];")
+change("learned: test uncounted", "Listing", LEARNED, LEARNED.replace("s .tested + 1", "s .tested"))
+change("learned: uncounted", "Listing", LEARNED, LEARNED.replace("s .learned + 1", "s .learned"))
+change("learned: unkept counted", "Listing", LEARNED, LEARNED.replace("s .unkept;", "s .unkept + 1;"))
+change("learned: trials forgotten", "Listing", LEARNED, LEARNED.replace("trials = t;", "trials = s .trials;"))
+SPENT = """  tested = s .tested;
+  learned = s .learned;
+  unkept = s .unkept;
+  trials = t;"""
+change("limit in step 7: trials forgotten", "Listing", SPENT, SPENT.replace("trials = t;", "trials = s .trials;"))
+change("limit in step 7: all trials forgotten", "Listing", SPENT, SPENT.replace("trials = t;", "trials = 0;"))
+change("limit in step 7: test counted", "Listing", SPENT, SPENT.replace("s .tested;", "s .tested + 1;"))
+change("limit in step 7: struck", "Listing", SPENT + "\n  struck = s .struck;", SPENT + "\n  struck = true;")
+change("limit in step 7: store emptied", "Listing", "  store = s .store;\n  listed = s .listed;\n" + SPENT, "  store = [];\n  listed = s .listed;\n" + SPENT)
+change("limit in step 7: list emptied", "Listing", "  store = s .store;\n  listed = s .listed;\n" + SPENT, "  store = s .store;\n  listed = [];\n" + SPENT)
+RSPENT = """  tested = s .tested + 1;
+  learned = s .learned;
+  unkept = s .unkept;
+  trials = t;
+  struck = true;"""
+change("limit in a reduction: test uncounted", "Listing", RSPENT, RSPENT.replace("s .tested + 1", "s .tested"))
+change("limit in a reduction: learned counted", "Listing", RSPENT, RSPENT.replace("s .learned;", "s .learned + 1;"))
+change("limit in a reduction: unkept counted", "Listing", RSPENT, RSPENT.replace("s .unkept;", "s .unkept + 1;"))
+change("limit in a reduction: trials forgotten", "Listing", RSPENT, RSPENT.replace("trials = t;", "trials = s .trials;"))
+change("limit in a reduction: not struck", "Listing", RSPENT, RSPENT.replace("struck = true", "struck = false"))
+change("limit in a reduction: store emptied", "Listing", "  store = s .store;\n  listed = s .listed;\n" + RSPENT, "  store = [];\n  listed = s .listed;\n" + RSPENT)
+change("limit in a reduction: list emptied", "Listing", "  store = s .store;\n  listed = s .listed;\n" + RSPENT, "  store = s .store;\n  listed = [];\n" + RSPENT)
+change("most tested one less", "Listing", "mostTested = 4294967295", "mostTested = 4294967294")
+change("most tested one more", "Listing", "mostTested = 4294967295", "mostTested = 4294967296")
+change("full: one early", "Listing", "elim (ltb entries (length rest + length others)) [", "elim (ltb entries (length rest + length others + 1)) [")
+change("full: one late", "Listing", "elim (ltb entries (length rest + length others)) [", "elim (ltb (entries + 1) (length rest + length others)) [")
+change("full: counts children that manifest", "Listing", "elim (ltb entries (length rest + length others)) [", "elim (ltb entries (length rest + length children)) [")
+change("full: counts the children alone", "Listing", "elim (ltb entries (length rest + length others)) [", "elim (ltb entries (length others)) [")
+change("children that manifest put in", "Listing", "more (queued s (enqueueAll o others rest))", "more (queued s (enqueueAll o children rest))")
+change("full: the run goes on without them", "Listing", "| true ↦ ended full s\n", "| true ↦ more (queued s rest)\n")
+change("full: ends 'spent'", "Listing", "| true ↦ ended full s\n", "| true ↦ ended Ending.spent s\n")
+change("store full: one entry more", "Listing", "elim (ltb (length (s .store)) places) [", "elim (ltb (length (s .store)) (places + 1)) [")
+change("store full: one entry less", "Listing", "elim (ltb (length (s .store)) places) [", "elim (ltb (length (s .store) + 1) places) [")
+change("store full: still reduces", "Listing", "| false ↦ more (unkeptOne s rest t)", "| false ↦ elim (reduce p limit n t) [ conflict c t′ ↦ more (unkeptOne s rest t′) | Reduced.spent t′ ↦ ended Ending.spent (spentInReduction s t′) ]")
+change("store full: still removes queue nodes", "Listing", "| false ↦ more (unkeptOne s rest t)", "| false ↦ elim (reduce p limit n t) [ conflict c t′ ↦ more (unkeptOne s (leaveOff (c ∷ []) rest) t) | Reduced.spent t′ ↦ more (unkeptOne s rest t) ]")
+change("store full: ends the run", "Listing", "| false ↦ more (unkeptOne s rest t)", "| false ↦ ended full (unkeptOne s rest t)")
+change("learn: the reduction's limit afresh", "Listing", "elim (reduce p limit n t) [", "elim (reduce p limit n 0) [")
+change("learn: not reduced", "Listing", "| conflict c t′ ↦ more (learnedOne s rest c t′)", "| conflict c t′ ↦ more (learnedOne s rest n t′)")
+change("learn: trials of the reduction forgotten", "Listing", "| conflict c t′ ↦ more (learnedOne s rest c t′)", "| conflict c t′ ↦ more (learnedOne s rest c t)")
+change("learn: spent in the reduction counts as unkept", "Listing", "| Reduced.spent t′ ↦ ended Ending.spent (spentInReduction s t′)", "| Reduced.spent t′ ↦ more (unkeptOne s rest t′)")
+change("learn: spent in the reduction as in the test", "Listing", "| Reduced.spent t′ ↦ ended Ending.spent (spentInReduction s t′)", "| Reduced.spent t′ ↦ ended Ending.spent (spentInTest s t′)")
+change("judge: trials afresh", "Listing", "elim (test p limit n (s .trials)) [", "elim (test p limit n 0) [")
+change("judge: consistent trials forgotten", "Listing", "| consistent f t ↦ more (listedOne s rest (valueList n) t)", "| consistent f t ↦ more (listedOne s rest (valueList n) (s .trials))")
+change("judge: lists all variables", "Listing", "| consistent f t ↦ more (listedOne s rest (valueList n) t)", "| consistent f t ↦ more (listedOne s rest f t)")
+change("judge: consistent ends the run", "Listing", "| consistent f t ↦ more (listedOne s rest (valueList n) t)", "| consistent f t ↦ ended enough (listedOne s rest (valueList n) t)")
+change("judge: spent says full", "Listing", "| Tested.spent t ↦ ended Ending.spent (spentInTest s t)", "| Tested.spent t ↦ ended full (spentInTest s t)")
+change("judge: spent goes on", "Listing", "| Tested.spent t ↦ ended Ending.spent (spentInTest s t)", "| Tested.spent t ↦ more (queued (spentInTest s t) rest)")
+change("expand: conflicts unlooked", "Listing", "elim (firstUnresolved (s .store) n) [", "elim (firstUnresolved [] n) [")
+change("expand: step 5 for step 4", "Listing", "| some c ↦ putChildren s rest (resolving (decisionSizes p) n c)", "| some c ↦ putChildren s rest (branching (decisionSizes p) n)")
+change("expand: test though not full", "Listing", "| false ↦ putChildren s rest (branching (decisionSizes p) n)", "| false ↦ judge s rest n")
+change("remove: empty is enough", "Listing", "remove s [] = ended all s", "remove s [] = ended enough s")
+change("remove: the last", "Listing", "remove s (n ∷ rest) = expand s rest n", "remove s (n ∷ []) = expand s [] n\n  remove s (n ∷ m ∷ rest) = expand s (n ∷ rest) m")
+change("k: one more", "Listing", "step s = elim (ltb (length (s .listed)) k) [", "step s = elim (ltb (length (s .listed)) (k + 1)) [")
+change("'all' before 'enough'", "Listing", "step s = elim (ltb (length (s .listed)) k) [ false ↦ ended enough s | true ↦ remove s (s .queue) ]", "step s = elim (s .queue) [ [] ↦ ended all s | n ∷ rest ↦ elim (ltb (length (s .listed)) k) [ false ↦ ended enough s | true ↦ remove s (s .queue) ] ]")
+change("enough: empties the store", "Listing", "[ false ↦ ended enough s |", "[ false ↦ ended enough (record { queue = s .queue; store = []; listed = s .listed; tested = s .tested; learned = s .learned; unkept = s .unkept; trials = s .trials; struck = s .struck }) |")
+change("run: one step fewer", "Listing", "enoughSteps domains = suc (weight domains (unassigned domains))", "enoughSteps domains = weight domains (unassigned domains)")
+change("run: weight without the node", "Listing", "weight (s ∷ ss) (none ∷ n) = suc s * weight ss n", "weight (s ∷ ss) (none ∷ n) = s * weight ss n")
+change("start: survivors forgotten", "Listing", "  store = survivors;", "  store = [];")
+change("start: trials forgotten", "Listing", "  trials = used;", "  trials = 0;")
+change("start: tested from the offers", "Listing", "  tested = 0;\n", "  tested = length survivors;\n")
+change("start: learned from the offers", "Listing", "  learned = 0;\n", "  learned = length survivors;\n")
+change("start: unkept from the offers", "Listing", "  unkept = 0;\n", "  unkept = length survivors;\n")
+change("start: struck", "Listing", "  struck = false;", "  struck = true;")
+change("listing: broken off, run goes on", "Listing", "| brokenOff survivors used ↦ ended Ending.spent (start (decisionSizes p) survivors used)", "| brokenOff survivors used ↦ run p o k entries places limit (enoughSteps (decisionSizes p)) (start (decisionSizes p) survivors used)")
+change("listing: broken off, survivors lost", "Listing", "| brokenOff survivors used ↦ ended Ending.spent (start (decisionSizes p) survivors used)", "| brokenOff survivors used ↦ ended Ending.spent (start (decisionSizes p) [] used)")
+change("listing: broken off is all", "Listing", "| brokenOff survivors used ↦ ended Ending.spent (start", "| brokenOff survivors used ↦ ended all (start")
+change("listing: broken off strikes in a reduction", "Listing", "| brokenOff survivors used ↦ ended Ending.spent (start (decisionSizes p) survivors used)", "| brokenOff survivors used ↦ ended Ending.spent (spentInReduction (start (decisionSizes p) survivors used) used)")

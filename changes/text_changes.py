@@ -1,0 +1,33 @@
+"""Small changes of Text."""
+
+from change import change
+
+# ---- Text
+change("digits: capitals", "Text", "87 + d", "55 + d")
+change("digits: ten is a digit", "Text", "elim (ltb d 10) [", "elim (leb d 10) [", "use lib.Dec.{ltb, eqb}", "use lib.Dec.{leb, eqb}")
+change("decimal: leading zeros", "Text", "map digitByte (significant (digits 10 mostDecimals n))", "map digitByte (digits 10 mostDecimals n)")
+change("decimal: nothing for zero", "Text", "significant (d ∷ []) = d ∷ []", "significant (d ∷ []) = elim (eqb d 0) [ true ↦ [] | false ↦ d ∷ [] ]")
+change("decimal: every zero left out", "Text", "| false ↦ d ∷ e ∷ ds ]", "| false ↦ d ∷ significant (e ∷ ds) ]")
+change("decimal: nineteen digits", "Text", "mostDecimals = 20", "mostDecimals = 19")
+change("hexadecimal: without leading zeros", "Text", "map digitByte (digits 16 w n)", "map digitByte (significant (digits 16 w n))")
+change("state: no space", "Text", "decimal rank ++ space ++ decimal (e .figure)", "decimal rank ++ decimal (e .figure)")
+change("state: cost for code", "Text", "hexadecimal codeDigits (e .code)", "hexadecimal codeDigits (e .figure)")
+change("state: fifteen digits", "Text", "codeDigits = 16", "codeDigits = 15")
+change("state: no line feed", "Text", "hexadecimal codeDigits (e .code) ++ lineFeed", "hexadecimal codeDigits (e .code)")
+change("states: ranks from 0", "Text", "stateLines 1 (runList", "stateLines 0 (runList")
+change("states: one rank", "Text", "stateLine rank e ++ stateLines (rank + 1) es", "stateLine rank e ++ stateLines rank es")
+change("states: the last first", "Text", "stateLine rank e ++ stateLines (rank + 1) es", "stateLines (rank + 1) es ++ stateLine rank e")
+change("endings: enough misspelt", "Text", '"enough "', '"enuogh "')
+change("endings: full misspelt", "Text", '"full "', '"ful "')
+change("endings: spent misspelt", "Text", '"spent "', '"spend "')
+change("the line of counts: learned and unkept swapped", "Text", "decimal (c .learned)", "decimal (c .unkept x)", "decimal (c .unkept)", "decimal (c .learned)", "decimal (c .unkept x)", "decimal (c .unkept)")
+change("the line of counts: listed for tested", "Text", "decimal (c .tested)", "decimal (c .listed)", "    decimal (c .listed)\n    ++ bytes", "    decimal (c .tested)\n    ++ bytes")
+change("counts before the states", "Text", "stateLines 1 (runList (c .listed) b) ++ endingLine e c", "endingLine e c ++ stateLines 1 (runList (c .listed) b)")
+change("refusal misspelt", "Text", '"refused "', '"refuse "')
+change("refusal: no line feed", "Text", "decimal n ++ lineFeed", "decimal n")
+change("k 15", "Text", "wantedStates = 16", "wantedStates = 15")
+change("k 17", "Text", "wantedStates = 16", "wantedStates = 17")
+change("a store of 63 entries", "Text", "storeWords = 128", "storeWords = 126")
+change("a queue of 4,095 entries", "Text", "queueWords = 8192", "queueWords = 8190")
+change("another limit", "Text", "trialLimit = 1000000", "trialLimit = 100000")
+change("an entry held", "Text", "programBuffers 0 trialLimit", "programBuffers 1 trialLimit")
