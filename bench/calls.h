@@ -1,8 +1,8 @@
 /* The C calls that are compared, with the shapes of the project's exports.
  *
- * list: the listing call of document 01; the refusal's number, or 0 after six
- *   result words: ending (1 enough, 2 all, 3 full, 4 spent), listed, tested,
- *   learned, unkept, trials.
+ * list: the listing call of docs/SPECIFICATION.md; the refusal's number, or 0
+ *   after six result words: ending (1 enough, 2 all, 3 full, 4 spent), listed,
+ *   tested, learned, unkept, trials.
  * test: the test call; the refusal's number, or 0 after two result words:
  *   answer (1 consistent, 2 inconsistent, 3 spent), trials. Fewer than two
  *   result words get refusal 2.
@@ -34,7 +34,7 @@ typedef uint32_t reduce_call(const uint8_t *sheet, size_t sheet_len,
                              uint64_t *conflict, size_t conflict_len,
                              uint32_t *result, size_t result_len);
 
-/* What document 01 numbers and bounds. */
+/* What the specification numbers and bounds. */
 enum {
     DECISIONS_MOST = 16,
     STATES_MOST = 32,

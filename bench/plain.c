@@ -1,7 +1,8 @@
-/* An independent plain implementation, straight from document 01: every clause
- * is scanned after each trial, the queue is an unordered array searched from
- * end to end for the node whose best state comes first (a node carries its best
- * state's cost and code), the store is scanned variable by variable. */
+/* An independent plain implementation of docs/SPECIFICATION.md, word for word:
+ * every clause is scanned after each trial, the queue is an unordered array
+ * searched from end to end for the node whose best state comes first (a node
+ * carries its best state's cost and code), the store is scanned variable by
+ * variable. */
 #include "plain.h"
 
 #include <stdbool.h>

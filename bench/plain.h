@@ -1,4 +1,4 @@
-/* Document 01 in plain C: see plain.c. */
+/* docs/SPECIFICATION.md in plain C: see plain.c. */
 #ifndef BENCH_PLAIN_H
 #define BENCH_PLAIN_H
 
@@ -9,8 +9,8 @@ test_call plain_test;
 reduce_call plain_reduce;
 
 /* plain_list compiled once more with PLAIN_COUNTS, never timed. It counts what
- * document 01 settles for every implementation alike: nodes removed from the
- * queue, and stored conflicts that a node or child was held against. */
+ * the specification settles for every implementation alike: nodes removed from
+ * the queue, and stored conflicts that a node or child was held against. */
 list_call counted_list;
 extern uint64_t counted_removals, counted_looks;
 

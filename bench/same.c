@@ -1,8 +1,8 @@
-/* Document 01 in C with the design of the proved library: sets of clauses as
- * words, a search that notes what it went by where it found no values, the queue
- * as a binary heap of two-word entries in the lent buffer, the store scanned
- * with word operations on masks that it keeps widened. Shares no code with
- * plain.c. */
+/* docs/SPECIFICATION.md in C with the design of the proved library: sets of
+ * clauses as words, a search that notes what it went by where it found no values,
+ * the queue as a binary heap of two-word entries in the lent buffer, the store
+ * scanned with word operations on masks that it keeps widened. Shares no code
+ * with plain.c. */
 #include "same.h"
 
 #include <stdbool.h>

@@ -195,7 +195,7 @@ def list_of(answer):
 
 
 def check_answer(case, answer, plant):
-    """What an answer to a test or reduction breaks of document 01, by brute force."""
+    """What an answer to a test or reduction breaks of the specification, by brute force."""
     states, call = consistent_states(plant), case.call
     number, trials = answer.words("result")[:ANSWER_WORDS]
     name = ANSWERS[case.kind][number - 1]

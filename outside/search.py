@@ -1,7 +1,7 @@
 """Assignments, the consistency test with its trials, and the reduction.
 
 An assignment is a tuple over the D decision variables, None where a variable
-is unassigned; the two words of document 01 are met only at the edges.
+is unassigned; the two words of docs/SPECIFICATION.md are met only at the edges.
 """
 
 from typing import NamedTuple, Optional

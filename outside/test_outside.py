@@ -49,7 +49,7 @@ def refusal_of(call, *arguments):
 
 
 class Table(unittest.TestCase):
-    """P1 to P11 of document 01."""
+    """P1 to P11 of the specification."""
 
     def check(self, words, own_list, sheet=SMALL, **settings):
         result = listing(sheet, set_up(**settings))

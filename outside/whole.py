@@ -153,7 +153,7 @@ def check_demand3(result, plant, settings):
 
 
 def check_rest(result, plant, settings):
-    """Further statements of document 01 on a result."""
+    """Further statements of the specification on a result."""
     broken = []
     if result.trials > settings.limit:
         broken.append("trials beyond the limit")

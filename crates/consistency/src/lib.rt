@@ -1,9 +1,9 @@
 // The consistency test over decoded tables: whether values of all unassigned variables make every clause hold, with the
-// trials that document 01 counts. The first question, whether a clause is false already, is asked of the literals
-// themselves (`clauses::evaluation`). After that a trial is a few operations on words, since sets of clauses are bits of
-// words: the sets of a plant are made once (`clauses::tables`), and the search hands down the set of the clauses that are
-// satisfied so far. With at most 128 clauses a set is two words (`pair_search`), with more it is eight (`row_search`). A
-// variable's value is a byte, and 16 says that it is unassigned.
+// trials that `docs/SPECIFICATION.md` counts. The first question, whether a clause is false already, is asked of the
+// literals themselves (`clauses::evaluation`). After that a trial is a few operations on words, since sets of clauses are
+// bits of words: the sets of a plant are made once (`clauses::tables`), and the search hands down the set of the clauses
+// that are satisfied so far. With at most 128 clauses a set is two words (`pair_search`), with more it is eight
+// (`row_search`). A variable's value is a byte, and 16 says that it is unassigned.
 use clauses::evaluation::any_false;
 use clauses::sets::PAIR_CLAUSES;
 use clauses::sets::Sat;

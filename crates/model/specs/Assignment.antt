@@ -1,4 +1,4 @@
--- Document 01, "Assignments": assignments to the decision variables, their two words, full, code and well formed. Assumes nothing: these are definitions.
+-- Specification, "Assignments": assignments to the decision variables, their two words, full, code and well formed. Assumes nothing: these are definitions.
 use mathlib.Core.Path.{_≡_}
 use mathlib.Core.Bool.{Bool, true, false, _&&_}
 use mathlib.Core.Option.{Option, none, some}

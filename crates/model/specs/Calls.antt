@@ -1,4 +1,4 @@
--- Document 01, "Who caused the refusal" and the three calls whole: from every number and lent buffer before to the answer and every lent buffer after. Assumes nothing: these are definitions.
+-- Specification, "Who caused the refusal", "Exports to C" and the three calls whole: from every number and lent buffer before to the answer and every lent buffer after. Assumes nothing: these are definitions.
 use mathlib.Core.Bool.{Bool, true, false, not, _&&_, _||_}
 use mathlib.Core.Option.{Option, none, some}
 use mathlib.Core.List.{List, [], _∷_, map}
@@ -101,11 +101,11 @@ pub record Called : Type 0 where
 abbrev pub odd : ℕ → Bool
 odd n = eqb (n % 2) 1
 
--- "k, 1 to 4,096": the most states that a call lists
+-- the most states that a call lists: k is 1 to this many
 abbrev pub mostListed : ℕ
 mostListed = 4096
 
--- "queue odd, below 2 or above 8,192 words", "store odd, above 8,192 words": the most words of each
+-- the most words of the queue, and of the store
 abbrev pub mostWords : ℕ
 mostWords = 8192
 

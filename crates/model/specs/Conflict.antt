@@ -1,4 +1,4 @@
--- Document 01, "Conflict": conflicts, the reduction, manifests and resolves. Assumes nothing: these are definitions.
+-- Specification, "Conflict": conflicts, the reduction, manifests and resolves. Assumes nothing: these are definitions.
 use mathlib.Core.Path.{_≡_}
 use mathlib.Core.Bool.{Bool, true, false, not, _&&_, _||_}
 use mathlib.Core.Option.{Option, none, some}

@@ -1,4 +1,4 @@
--- Document 01, "Consistency test": what consistent means, and the test with its trials. Assumes nothing: these are definitions.
+-- Specification, "Consistency test": what consistent means, and the test with its trials. Assumes nothing: these are definitions.
 use mathlib.Core.Path.{_≡_}
 use mathlib.Core.Bool.{Bool, true, false, not}
 use mathlib.Core.Option.{none, some}

@@ -1,4 +1,4 @@
--- Document 01, "Small plant": P1 to P11, proved together as one table from the sheet's bytes and the settings to the answer. Assumes nothing.
+-- Specification, "Small plant": P1 to P11, proved together as one table from the sheet's bytes and the settings to the answer. Assumes nothing.
 use mathlib.Core.Path.{_≡_, refl}
 use mathlib.Core.Bool.{Bool, true, false}
 use mathlib.Core.List.{List, [], _∷_, _++_, map}

@@ -1,4 +1,4 @@
--- Document 01, "Listing": its steps 1 to 7 and the run. Assumes nothing: these are definitions.
+-- Specification, "Listing": its steps 1 to 7 and the run. Assumes nothing: these are definitions.
 use mathlib.Core.Bool.{Bool, true, false, not}
 use mathlib.Core.Option.{Option, none, some}
 use mathlib.Core.List.{List, [], _∷_, _++_, map}

@@ -1,4 +1,4 @@
--- Document 01, "Assignments" and "Listing": cost, the order of full assignments, best states, and the whole set. Assumes nothing: these are definitions.
+-- Specification, "Assignments" and "Listing": cost, the order of full assignments, best states, and the whole set. Assumes nothing: these are definitions.
 use mathlib.Core.Bool.{Bool, true, false, _&&_, _||_}
 use mathlib.Core.Option.{Option, none, some}
 use mathlib.Core.List.{List, [], _∷_, _++_, map}

@@ -123,7 +123,7 @@ pub cuts-are : answers cuts ≡ expected cuts
 unfolding cuts cut answers expected plain tail small
 cuts-are = refl
 
--- ---- two grounds at once: the one that document 01 puts first
+-- ---- two grounds at once: the one that the specification puts first
 
 unfoldable pub doubles : List Row
 doubles =

@@ -1,4 +1,4 @@
--- Document 01, "Plant sheet": the bits of a sheet, what it says, and refusals 5 to 13 in reading order. Assumes nothing: these are definitions.
+-- Specification, "Plant sheet": the bits of a sheet, what it says, and refusals 5 to 13 in reading order. Assumes nothing: these are definitions.
 use Prim.Native.Nat.{ℕ, zero, suc, _+_, _-_, _*_, _/_, _%_}
 use mathlib.Core.List.{List, [], _∷_, _++_, map}
 use mathlib.Core.Bool.{Bool, true, false, _&&_}

@@ -1,4 +1,4 @@
--- Document 01, "Small plant": the text that the program `leading` prints for a sheet, as bytes. Assumes nothing: these are definitions.
+-- Specification, "Program": the text that the program `leading` prints for a sheet, as bytes. Assumes nothing: these are definitions.
 use mathlib.Core.Bool.{true, false}
 use mathlib.Core.List.{List, [], _∷_, _++_, map}
 use Prim.Native.Nat.{ℕ, _+_}

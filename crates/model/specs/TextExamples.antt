@@ -15,7 +15,7 @@ twenty =
     0x01 ∷ 0x10 ∷ 0x00 ∷ 0x02 ∷ 0x00 ∷ 0x00 ∷ 0x00 ∷ 0x96 ∷ 0x00 ∷ 0x01 ∷ 0x00 ∷ 0x14 ∷ 0x00 ∷ 0x02 ∷ 0x98 ∷ 0x00 ∷ 0x38 ∷ 0x00 ∷ 0x08 ∷ 0x00
     ∷ 0x00 ∷ 0x00 ∷ 0x30 ∷ []
 
--- P1 as document 01 prints it; P8; P10; sixteen states of twenty
+-- P1 as the specification prints it; P8; P10; sixteen states of twenty
 unfoldable pub texts : List (List ℕ)
 unfolding call leadingText programBuffers answerText stateLines stateLine endingLine countsLine refusalLine decimal hexadecimal
 texts = map leadingText (small ∷ emptyClause ∷ seventeen ∷ twenty ∷ [])

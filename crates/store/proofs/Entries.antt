@@ -38,7 +38,7 @@ module _ (f : Assignment → ℕ) where
   words-append [] c = refl
   words-append (b ∷ cs) c = ap (λ (r : List ℕ). f b ∷ valuesOf b ∷ r) (words-append cs c)
 
--- the entries of document 01 are the words with plain masks
+-- the entries of the specification are the words with plain masks
 pub entry-words : (cs : List Assignment) → entryWords cs ≡ wordsBy maskOf cs
 unfolding entryWords wordsBy
 entry-words [] = refl

@@ -18,7 +18,7 @@ use Rattle.model.specs.Text.{wantedStates, programBuffers, trialLimit, leadingT
 use Rattle.theory.specs.Longest.{headBits, decisionBits, stateBits, literalBits, clauseBits, variableBits, fieldBits, longestSheet, decidingBytes}
 use Rattle.theory.proofs.Sheet.{field-got, allowed-most, accepted-any}
 
--- the number that document 01 gives
+-- the number that the specification gives
 pub longest-edition1 : longestSheet edition1 ≡ 11356
 unfolding longestSheet edition1
 longest-edition1 = refl

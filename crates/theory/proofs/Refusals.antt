@@ -1,4 +1,4 @@
--- Every refusal has one of document 01's numbers: the host's 1 to 4 before the sheet, the author's 5 to 13. Assumes nothing.
+-- Every refusal has one of the numbers of `docs/SPECIFICATION.md`: the host's 1 to 4 before the sheet, the author's 5 to 13. Assumes nothing.
 use mathlib.Core.Path.{_≡_, refl, subst}
 use mathlib.Core.Bool.{Bool, true, false}
 use mathlib.Core.Option.{Option, none, some}

@@ -352,7 +352,7 @@ pub longest-attained1 : (length (sheetOf edition1 (largestPlant edition1)) ≡ l
 unfolding edition1
 longest-attained1 = longest-attained edition1 (omega arith) (omega arith) (omega arith)
 
--- the small plant's sheet is the one that document 01 gives
+-- the small plant's sheet is the one that the specification gives
 pub small-written : sheetOf edition1 smallPlant ≡ small
 unfolding sheetOf plantWritten packed number digits edition1 smallPlant small tail
 small-written = refl

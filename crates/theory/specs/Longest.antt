@@ -1,4 +1,4 @@
--- Document 01, "Plant sheet": the most bits of each part of a sheet, and the bytes of the longest. Assumes nothing: these are definitions.
+-- Specification, "Plant sheet": the most bits of each part of a sheet, and the bytes of the longest. Assumes nothing: these are definitions.
 use Prim.Native.Nat.{ℕ, _+_, _*_, _/_}
 use Rattle.model.specs.Sheet.{Edition}
 

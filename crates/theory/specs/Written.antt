@@ -1,4 +1,4 @@
--- The sheet of a plant: its fields in the order of document 01, packed into bytes. Assumes nothing: these are definitions.
+-- The sheet of a plant: its fields in the order of `docs/SPECIFICATION.md`, packed into bytes. Assumes nothing: these are definitions.
 use mathlib.Core.List.{List, [], _∷_, _++_}
 use Prim.Native.Nat.{ℕ, zero, suc, _+_, _-_, _/_}
 use lib.ListN.{length, take, drop, replicate}

@@ -1,8 +1,8 @@
-// Assignments to at most sixteen decision variables as document 01 has them: two words, a mask with variable 0 as its top
-// bit, and values with variable 0 as their top four bits. Here they are read, changed, checked for being well formed and
-// compared, the last for all variables at once. `Words` says that two words are those of an assignment, `Wide` the same of
-// a widened mask and values; for such words each answer is an equation with the model. Nothing relies on there being a
-// variable.
+// Assignments to at most sixteen decision variables as `docs/SPECIFICATION.md` has them: two words, a mask with variable 0
+// as its top bit, and values with variable 0 as their top four bits. Here they are read, changed, checked for being well
+// formed and compared, the last for all variables at once. `Words` says that two words are those of an assignment, `Wide`
+// the same of a widened mask and values; for such words each answer is an equation with the model. Nothing relies on there
+// being a variable.
 ghost use mathlib.Core.Path.{_≡_};
 ghost use mathlib.Core.List.{List};
 ghost use mathlib.Core.Option.{none};
