@@ -141,7 +141,7 @@ check_manual() {
     local name number
     synopsis > "$out/synopsis.c"
     "$1" -std=c11 "${strict[@]}" -fsyntax-only "$out/synopsis.c"
-    for name in leading_{list,test,reduce,version}; do
+    for name in leading_{list,held,test,reduce,version}; do
         grep -q "$name(" "$out/synopsis.c" || fail "manual: no declaration of $name"
     done
     for name in $(grep -o 'LEADING_[A-Z_]*' man/leading.3 | sort -u); do
@@ -158,7 +158,7 @@ check_manual() {
 check_pages() {
     local name page=$PWD/$out/page
     have groff || return 0
-    for name in leading leading_{list,test,reduce,version}; do
+    for name in leading leading_{list,held,test,reduce,version}; do
         (cd "$1/share/man" && groff -man -ww -Tutf8 "man3/$name.3") > "$page.$name" 2> "$page.said"
         [ ! -s "$page.said" ] || fail "manual: $(cat "$page.said")"
         cmp "$page.$name" "$page.leading"

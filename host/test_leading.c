@@ -1,6 +1,6 @@
 /* leading.h against the runs P1 to P11 of the specification, tests and reductions
  * on the small plant, and each refusal: what is returned, and every word of every
- * buffer, those around them too. Then the version, the texts and LEADING_PARTS.
+ * buffer, those around them too. Runs that offer what another learned. Then the version, the texts and LEADING_PARTS.
  */
 #include "leading.h"
 
@@ -111,6 +111,39 @@ static const struct refused_sheet {
 #define NEVER_ONE {{18, 0x40}, {19, 0x88}, 20}
 #define NO_SHEET {{UNCHANGED, 0}, {UNCHANGED, 0}, 0}
 
+#define SELECTOR LEADING_MASK(0)
+#define CLUTCH LEADING_MASK(1)
+#define ZERO LEADING_CODE(0, 0)
+#define ONE LEADING_CODE(0, 1)
+#define OFFERS_MOST 2
+
+/* Two runs, the second with what leading_held() says of the first: that number, and
+ * the second's result words. On the empty clause's sheet no state fits, and the
+ * conflict that is learned has mask 0. */
+static const struct offered {
+    const char *name;
+    struct given given;
+    uint64_t offers[LEADING_STORE_WORDS(OFFERS_MOST)];
+    size_t offered, entries;
+    uint32_t limit;
+    size_t held;
+    uint32_t result[LEADING_RESULT_WORDS];
+} offered_runs[] = {
+    {"held", AS_IT_IS, {0}, 0, 64, 1000000, 1, {2, 3, 3, 0, 0, 5}},
+    {"held, limit 5", AS_IT_IS, {0}, 0, 64, 5, 0, {2, 3, 4, 1, 0, 15}},
+    {"held, store of 1", AS_IT_IS, {0}, 0, 1, 1000000, 1, {2, 3, 3, 0, 0, 5}},
+    {"held, mask 0 is no conflict", AS_IT_IS, {0, 0}, 1, 64, 1000000, 1, {2, 3, 3, 0, 0, 5}},
+    {"held, none fits", EMPTY_CLAUSE, {0}, 0, 64, 1000000, 1, {2, 0, 0, 0, 0, 0}},
+    {"held, none fits, mask 0", EMPTY_CLAUSE, {0, 0}, 1, 64, 1000000, 1, {2, 0, 0, 0, 0, 0}},
+    {"held, none fits, one offer", EMPTY_CLAUSE, {SELECTOR, ZERO}, 1, 64, 1000000, 2,
+     {2, 0, 0, 0, 0, 0}},
+    {"held, none fits, all offered", EMPTY_CLAUSE, {SELECTOR, ZERO, SELECTOR, ONE}, 2, 64,
+     1000000, 3, {2, 0, 0, 0, 0, 0}},
+    {"held, none fits, store of 1", EMPTY_CLAUSE, {SELECTOR, ZERO}, 1, 1, 1000000, 1,
+     {2, 0, 2, 0, 2, 0}},
+    {"held, none fits, no store", EMPTY_CLAUSE, {0}, 0, 0, 1000000, 0, {2, 0, 4, 0, 4, 0}},
+};
+
 enum call { TEST, REDUCE, CALLS };
 
 /* What a test or reduction is asked; the buffers in words. */
@@ -119,11 +152,6 @@ struct question {
     uint32_t limit;
     size_t conflict, result;
 };
-
-#define ZERO LEADING_CODE(0, 0)
-#define ONE LEADING_CODE(0, 1)
-#define SELECTOR LEADING_MASK(0)
-#define CLUTCH LEADING_MASK(1)
 
 /* Tests and reductions: what is asked, and what is written; a conflict only after
  * LEADING_REDUCE_CONFLICT. */
@@ -278,6 +306,20 @@ static void test_run(const struct run *r)
     expect_work(r->name, r);
 }
 
+static void test_offered(const struct offered *o)
+{
+    struct counts counts = usual;
+    counts.store = LEADING_STORE_WORDS(o->entries);
+    counts.held = o->offered;
+    give(&o->given);
+    memcpy(now.store + 1, o->offers, LEADING_STORE_WORDS(o->offered) * sizeof *o->offers);
+    expect(call(&counts, o->given.length, o->limit) == LEADING_OK, o->name, "refused");
+    counts.held = leading_held(now.store + 1, counts.store, now.result + 1);
+    expect(counts.held == o->held, o->name, "another number");
+    expect(call(&counts, o->given.length, 1000000) == LEADING_OK, o->name, "refused again");
+    expect(!memcmp(now.result + 1, o->result, sizeof o->result), o->name, "result words");
+}
+
 static void test_refusal(const struct counts *c, size_t length, uint32_t refused)
 {
     char name[32];
@@ -324,6 +366,8 @@ static void test_listings(void)
 {
     for (size_t i = 0; i < COUNT(runs); i++)
         test_run(&runs[i]);
+    for (size_t i = 0; i < COUNT(offered_runs); i++)
+        test_offered(&offered_runs[i]);
     for (size_t i = 0; i < COUNT(refused_hosts); i++) {
         junk();
         test_refusal(&refused_hosts[i].counts, sizeof small_plant, refused_hosts[i].refused);
@@ -416,8 +460,9 @@ int main(void)
     test_refusal_texts();
     test_texts();
     test_parts();
-    printf("test_leading: %zu runs, %zu tests and reductions, %zu refusals, %d failures\n",
-           COUNT(runs), COUNT(answers),
+    printf("test_leading: %zu runs, %zu with offers, %zu tests and reductions, %zu refusals, "
+           "%d failures\n",
+           COUNT(runs), COUNT(offered_runs), COUNT(answers),
            COUNT(refused_hosts) + COUNT(refused_sheets) +
                CALLS * (COUNT(refused_questions) + COUNT(refused_sheets)),
            failures);

@@ -10,7 +10,8 @@
  *
  * leading_test() says whether given states of some parts can be together, and
  * leading_reduce() which of them are to blame where they cannot.
- * leading_version() says which archive is linked.
+ * leading_held() says how many conflicts a listing leaves for the next one, and
+ * leading_version() which archive is linked.
  *
  * Link libleading.a. `make archive` proves the code and writes it to target/lib
  * (x86-64); `make install PREFIX=/usr/local` puts it, this header, leading.pc and
@@ -33,7 +34,7 @@
  * variables make every clause hold.
  *
  * Example: the small plant. This very text is compiled and run by the gate, as
- * C and as C++; so is the second example, at leading_reduce().
+ * C and as C++; so are the examples at leading_held() and leading_reduce().
  *
  * @code
  * #include <inttypes.h>
@@ -372,8 +373,8 @@ uint32_t leading_version(void);
  *     never makes the list wrong. After: the offers that passed, closed up, in
  *     their order; then the LEADING_LEARNED conflicts of this run; then zeros.
  *     Where the limit strikes while offers are tested, those not yet passed are
- *     gone. To offer a run's conflicts to the next one, let `held` be the
- *     number of entries before the first whose mask is 0.
+ *     gone. leading_held() says how many entries to offer to the next run. An
+ *     offer with mask 0 (no state fits at all) comes last.
  * result, result_len
  *     Out: the six words of enum leading_result. Before: anything. After: words
  *     behind the six unchanged.
@@ -396,6 +397,74 @@ uint32_t leading_list(const uint8_t *sheet, size_t sheet_len,
                       uint64_t *store, size_t store_len,
                       uint32_t *result, size_t result_len,
                       uint32_t k, size_t held, uint32_t limit);
+
+/*
+ * The entries of the store to offer to the next run, as its `held`: after a run
+ * that was not refused, with its store and its result words. Every conflict that
+ * the run left in the store is among them.
+ *
+ * Entries are counted up to the last whose mask is not 0. An entry of zeros
+ * behind it may be the conflict with mask 0: it is one where the run ended
+ * LEADING_ALL and listed nothing, since then no state fits, and it counts there;
+ * after any other run it is empty room. (A run that was offered nothing leaves
+ * LEADING_LEARNED entries.)
+ *
+ * Example: the small plant again, its first state, then all with what was learned.
+ *
+ * @code
+ * #include <inttypes.h>
+ * #include <stdio.h>
+ * #include "leading.h"
+ *
+ * static const uint8_t sheet[] = {
+ *     0x01, 0x10, 0x20, 0x10, 0x80, 0x00, 0x00, 0x01, 0x88, 0x00,
+ *     0x00, 0x00, 0x18, 0x98, 0x10, 0x06, 0x01, 0x04, 0x42, 0x00};
+ * static uint64_t codes[16];
+ * static uint32_t costs[16];
+ * static uint64_t queue[LEADING_QUEUE_WORDS(4096)];
+ * static uint64_t store[LEADING_STORE_WORDS(64)];
+ *
+ * int main(void)
+ * {
+ *     static const uint32_t most[] = {1, 16};
+ *     size_t held = 0;
+ *
+ *     for (int run = 0; run < 2; run++) {
+ *         uint32_t result[LEADING_RESULT_WORDS];
+ *         uint32_t refused = leading_list(sheet, sizeof sheet, codes, 16, costs, 16,
+ *                                         queue, LEADING_QUEUE_WORDS(4096),
+ *                                         store, LEADING_STORE_WORDS(64),
+ *                                         result, LEADING_RESULT_WORDS,
+ *                                         most[run], held, 1000000);
+ *         if (refused != LEADING_OK)
+ *             return 1;
+ *         printf("offered %u, listed %" PRIu32 ", learned %" PRIu32
+ *                ", trials %" PRIu32 "\n", (unsigned)held, result[LEADING_LISTED],
+ *                result[LEADING_LEARNED], result[LEADING_TRIALS]);
+ *         held = leading_held(store, LEADING_STORE_WORDS(64), result);
+ *     }
+ *     return 0;
+ * }
+ * @endcode
+ *
+ * It prints
+ *
+ * @output
+ * offered 0, listed 1, learned 1, trials 13
+ * offered 1, listed 3, learned 0, trials 5
+ * @endoutput
+ */
+static inline size_t leading_held(const uint64_t *store, size_t store_len,
+                                  const uint32_t *result)
+{
+    size_t entries = store_len / 2, held = entries;
+    while (held > 0 && store[LEADING_STORE_WORDS(held - 1)] == 0)
+        held--;
+    if (held < entries && result[LEADING_ENDING] == LEADING_ALL &&
+        result[LEADING_LISTED] == 0)
+        held++;
+    return held;
+}
 
 /*
  * Tests whether given states of some parts can be together: whether some states
