@@ -63,6 +63,31 @@ prints() {
     case $expected in refused*) [ "$status" = 1 ] ;; *) [ "$status" = 0 ] ;; esac
 }
 
+# $1 host, $2 its status, $3 what its messages have, its words
+says() {
+    local host=$1 wanted=$2 message=$3 status=0
+    shift 3
+    "$host" "$@" > "$out/printed" 2> "$out/reason" < /dev/null || status=$?
+    [ "$status" = "$wanted" ] || fail "leading_host $*: status $status"
+    grep -qF -- "$message" "$out/reason" || fail "leading_host $*: does not say '$message'"
+}
+
+# $1 host: what it says of words and files that it cannot use, and its help
+messages() {
+    says "$1" 2 'no such option: -x' -x 3
+    says "$1" 2 'no such option: -k5' -k5 examples/small.sheet
+    says "$1" 2 'a number is wanted after: -k' examples/small.sheet -k
+    says "$1" 2 'not a number, or too large: many' -k many
+    says "$1" 2 'more than one file: b' a b
+    says "$1" 2 'examples: Is a directory' examples
+    says "$1" 2 'no_such_file: No such file' no_such_file
+    says "$1" 1 'this looks like text' examples/small.plant
+    says "$1" 1 'ends inside a field'
+    ! grep -q 'looks like text' "$out/reason" || fail "leading_host: no text is no text"
+    "$1" -k 1 --help > "$out/printed" || fail "leading_host --help: status $?"
+    grep -q 'may take hours' "$out/printed" || fail "leading_host --help: no warning"
+}
+
 # the programs of a folder: the test of the header, each list, some refusals
 exercise() {
     local host=$1/leading_host name
@@ -73,13 +98,17 @@ exercise() {
     done
     local one=$'1 3 0100000000000000\nenough 1 tested 2 learned 1 unkept 0 trials 13'
     local small=examples/small.sheet
+    local conflict='conflict c000000000000000 0000000000000000'
     prints "$host" "$one" -k 1 $small
+    prints "$host" "$one"$'\n'"$conflict" -k 1 -c $small
+    prints "$host" $'1 3 0100000000000000\nenough 1 tested 2 learned 0 unkept 1 trials 3' -c -k 1 -s 0 $small
     prints "$host" 'full 0 tested 0 learned 0 unkept 0 trials 0' -q 2 $small
     prints "$host" 'spent 0 tested 1 learned 0 unkept 0 trials 5' -l 5 -s 4096 $small
     prints "$host" 'refused 1' -k 0 $small
     prints "$host" 'refused 3' -q 4097 $small
     prints "$host" 'refused 5' /dev/null
     prints "$host" 'refused 6' host/leading_host.c
+    messages "$host"
 }
 
 check_headers() {

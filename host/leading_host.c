@@ -1,7 +1,7 @@
 /* Lists the leading states of a plant sheet: a small host over leading.h.
  *
- * Standard output is what the program `leading` prints; the reason of a refusal
- * goes to standard error. Exit status: 0 a list, 1 refused, 2 bad usage.
+ * Standard output is what the program `leading` prints, and with -c the conflicts;
+ * the reason of a refusal goes to standard error. Exit status: 0 a list, 1 refused, 2 bad usage.
  */
 #include "leading.h"
 
@@ -12,18 +12,27 @@
 #include <string.h>
 
 static const char usage[] =
-    "usage: leading_host [-k STATES] [-q ENTRIES] [-s ENTRIES] [-l TRIALS] [FILE]\n"
+    "usage: leading_host [-k STATES] [-q ENTRIES] [-s ENTRIES] [-l TRIALS] [-c] [FILE]\n"
     "  lists the leading states of the plant sheet in FILE or standard input\n"
     "  -k  states to list at most (16)\n"
     "  -q  queue entries (4096)\n"
-    "  -s  conflict store entries (64)\n"
-    "  -l  trials at most (1000000)\n";
+    "  -s  conflict store entries (64); with 0, or with a store that gets full, a run\n"
+    "      may take hours, for -l bounds trials only and there are tests without any\n"
+    "  -l  trials at most (1000000)\n"
+    "  -c  then the conflicts learned, a line each: conflict MASK VALUES\n"
+    "  -h, --help  this text\n"
+    "A sheet is made of a plant text by examples/plant_text.py, which can also name\n"
+    "what is printed. Exit status: 0 a list, 1 refused, 2 bad usage.\n";
 
 /* More than the library takes, so that its refusals can be seen. */
 #define ENTRIES_MOST 100000
 
+/* Bytes that say whether a file is a text. */
+#define TEXT_LOOKED_AT 64
+
 struct settings {
     uint32_t k, queue, store, limit;
+    int conflicts;    /* whether they are printed */
     const char *path; /* NULL: standard input */
 };
 
@@ -50,31 +59,45 @@ static int number(const char *word, uint32_t most, uint32_t *to)
     return 1;
 }
 
-static int option(struct settings *s, char letter, const char *word)
+/* Where an option's number goes; NULL where there is no such option. */
+static uint32_t *place(struct settings *s, const char *word)
 {
-    switch (letter) {
-    case 'k': return number(word, ENTRIES_MOST, &s->k);
-    case 'q': return number(word, ENTRIES_MOST, &s->queue);
-    case 's': return number(word, ENTRIES_MOST, &s->store);
-    case 'l': return number(word, UINT32_MAX, &s->limit);
-    default: return fail("no such option", word);
-    }
+    if (!strcmp(word, "-k"))
+        return &s->k;
+    if (!strcmp(word, "-q"))
+        return &s->queue;
+    if (!strcmp(word, "-s"))
+        return &s->store;
+    return !strcmp(word, "-l") ? &s->limit : NULL;
 }
 
 static int arguments(struct settings *s, int argc, char **argv)
 {
     for (int i = 1; i < argc; i++) {
         const char *word = argv[i];
-        if (word[0] != '-' && s->path == NULL) {
+        uint32_t *to = place(s, word);
+        if (!strcmp(word, "-c"))
+            s->conflicts = 1;
+        else if (word[0] != '-' && s->path == NULL)
             s->path = word;
-            continue;
-        }
-        if (word[0] != '-' || word[1] == '\0' || word[2] != '\0' || i + 1 == argc)
-            return fail("not understood", word);
-        if (!option(s, word[1], argv[++i]))
+        else if (word[0] != '-')
+            return fail("more than one file", word);
+        else if (to == NULL)
+            return fail("no such option", word);
+        else if (i + 1 == argc)
+            return fail("a number is wanted after", word);
+        else if (!number(argv[++i], to == &s->limit ? UINT32_MAX : ENTRIES_MOST, to))
             return 0;
     }
     return 1;
+}
+
+static int wants_help(int argc, char **argv)
+{
+    for (int i = 1; i < argc; i++)
+        if (!strcmp(argv[i], "-h") || !strcmp(argv[i], "--help"))
+            return 1;
+    return 0;
 }
 
 /* Reads at most `room` bytes of the file, or of standard input. */
@@ -84,10 +107,19 @@ static int read_sheet(const char *path, uint8_t *sheet, size_t room, size_t *len
     if (file == NULL)
         return fail(path, strerror(errno));
     *length = fread(sheet, 1, room, file);
-    int broken = ferror(file);
+    int broken = ferror(file) ? errno : 0;
     if (file != stdin)
         fclose(file);
-    return broken ? fail(path == NULL ? "standard input" : path, "cannot be read") : 1;
+    return broken ? fail(path == NULL ? "standard input" : path, strerror(broken)) : 1;
+}
+
+/* Whether the first bytes are a text's. No sheet begins so. */
+static int is_text(const uint8_t *bytes, size_t length)
+{
+    for (size_t i = 0; i < length && i < TEXT_LOOKED_AT; i++)
+        if (bytes[i] < ' ' && bytes[i] != '\t' && bytes[i] != '\n' && bytes[i] != '\r')
+            return 0;
+    return length > 0;
 }
 
 static int lend(struct buffers *b, const struct settings *s)
@@ -120,6 +152,25 @@ static void print_run(const struct buffers *b, const uint32_t *result)
            result[LEADING_TRIALS]);
 }
 
+/* Nothing was offered, so the store has those learned. */
+static void print_conflicts(const uint64_t *store, uint32_t learned)
+{
+    for (uint32_t i = 0; i < learned; i++) {
+        const uint64_t *conflict = store + LEADING_STORE_WORDS(i);
+        printf("conflict %016" PRIx64 " %016" PRIx64 "\n", conflict[LEADING_CONFLICT_MASK],
+               conflict[LEADING_CONFLICT_VALUES]);
+    }
+}
+
+static void print_refusal(uint32_t refused, const uint8_t *sheet, size_t length)
+{
+    printf("refused %" PRIu32 "\n", refused);
+    fail("refused", leading_refusal_text(refused));
+    if (refused == LEADING_SHEET_EDITION && is_text(sheet, length))
+        fail("this looks like text; make a sheet of it",
+             "python3 examples/plant_text.py sheet FILE.plant -o FILE.sheet");
+}
+
 static uint32_t list(const struct settings *s, const uint8_t *sheet, size_t length,
                      struct buffers *b)
 {
@@ -130,9 +181,10 @@ static uint32_t list(const struct settings *s, const uint8_t *sheet, size_t leng
                                     result, LEADING_RESULT_WORDS, s->k, 0, s->limit);
     if (refused == LEADING_OK) {
         print_run(b, result);
+        if (s->conflicts)
+            print_conflicts(b->store, result[LEADING_LEARNED]);
     } else {
-        printf("refused %" PRIu32 "\n", refused);
-        fail("refused", leading_refusal_text(refused));
+        print_refusal(refused, sheet, length);
     }
     return refused;
 }
@@ -141,10 +193,12 @@ int main(int argc, char **argv)
 {
     /* One byte more than any sheet has: the sheet is too long, not cut. */
     static uint8_t sheet[LEADING_SHEET_BYTES_MOST + 1];
-    struct settings s = {16, 4096, 64, 1000000, NULL};
+    struct settings s = {16, 4096, 64, 1000000, 0, NULL};
     struct buffers b = {NULL, NULL, NULL, NULL};
     size_t length = 0;
 
+    if (wants_help(argc, argv))
+        return fputs(usage, stdout) < 0 || fflush(stdout) != 0 ? 2 : 0;
     if (!arguments(&s, argc, argv)) {
         fputs(usage, stderr);
         return 2;
