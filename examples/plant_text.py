@@ -1,26 +1,32 @@
 """Plants as text with names, and as sheets.
 
-    python3 examples/plant_text.py sheet FILE.plant > FILE.sheet
-    python3 examples/plant_text.py text FILE.sheet > FILE.plant
+    python3 examples/plant_text.py list FILE.plant [-k STATES] [--limit TRIALS]
+    python3 examples/plant_text.py sheet FILE.plant -o FILE.sheet
+    python3 examples/plant_text.py text FILE.sheet -o FILE.plant
     python3 examples/plant_text.py names FILE.plant < FILE.list
     python3 examples/plant_text.py check FILE.plant ...
 
-`sheet` writes the sheet of a text. `text` writes a text of a sheet, with made-up
-names (p0, h0, s0). `names` reads what the host or the program `leading` printed,
-and names in each line the parts that are not in their first state. `check` holds
-FILE.sheet to FILE.plant, and takes both there and back. README.md says what a
-text looks like.
+`list` lists the leading states of a text: it makes the sheet, runs the host
+program over it and names what that prints. `sheet` writes the sheet of a text.
+`text` writes a text of a sheet, with made-up names (p0, h0, s0). `names` reads
+what the host or the program `leading` printed, names in each line the parts that
+are not in their first state, and says conflicts in words. `check` holds FILE.sheet
+to FILE.plant, and takes both there and back. README.md says what a text looks like.
 
 Bytes are packed and read by outside/plant.py, which shares nothing with the
 proved library. Python 3, standard library only.
 """
 
+import argparse
+import codecs
 import re
+import subprocess
 import sys
 from pathlib import Path
 
+ROOT = Path(__file__).resolve().parent.parent
 sys.dont_write_bytecode = True
-sys.path.insert(0, str(Path(__file__).resolve().parent.parent / "outside"))
+sys.path.insert(0, str(ROOT / "outside"))
 
 from plant import (  # noqa: E402
     CLAUSES_MOST,
@@ -39,10 +45,28 @@ LITERALS_MOST = 15
 NAME = re.compile(r"[A-Za-z][A-Za-z0-9_-]*")
 LITERAL = re.compile(r"(\S+?)\s*(!=|=)\s*(\S+)")
 RESERVED = ("part", "hidden", "or", "never")
+HOST = ROOT / "target" / "host" / "leading_host"
+TEXT_MOST = 1 << 22  # bytes
+LINE_MOST = 10_000  # characters
+SHOWN_MOST = 60  # characters of the text in a message
+MARKS = (codecs.BOM_UTF8, codecs.BOM_UTF16_LE, codecs.BOM_UTF16_BE)
+NOT_IN_TEXT = re.compile(rb"[\x00-\x08\x0b\x0c\x0e-\x1f\x7f]")
+SHEET_BEGINS = b"\x01"
+LISTED = re.compile(r"([0-9]+ ([0-9]{1,10})) ([0-9a-f]{16})")
+CONFLICT = re.compile(r"conflict ([0-9a-f]{16}) ([0-9a-f]{16})")
+ANOTHER = "is this the list of another plant?"
+
+# What people write in a clause, and what to write.
+HINTS = (
+    (r"(^|\s)(OR|Or)(\s|$)|\|", "write 'or' in small letters"),
+    (r"(^|\s)(?i:and)(\s|$)|&", "for 'and' write a line each: all lines have to hold"),
+    (r"==", "write '=' for equal"),
+    (r"[-=]>", "for 'a = x -> b = y' write 'a != x or b = y'"),
+)
 
 
 class TextError(Exception):
-    """What cannot be written as a sheet."""
+    """What cannot be written as a sheet, or named."""
 
 
 class Reader:
@@ -74,7 +98,7 @@ class Reader:
 
     def declare(self, name, among, most, kind):
         if name in self.parts or name in self.hidden:
-            raise TextError(f"'{name}' is declared twice")
+            raise TextError(f"'{short(name)}' is declared twice")
         if len(among) == most:
             raise TextError(f"more than {most} {kind}")
 
@@ -89,13 +113,15 @@ class Reader:
     def literal(self, item):
         match = LITERAL.fullmatch(item)
         if not match:
-            raise TextError(f"expected 'name = state' or 'name != state', found '{item}'")
+            expected = "expected 'name = state' or 'name != state'"
+            raise TextError(f"{expected}, found '{short(item)}'{hints(item)}")
         name, sign, state = match.groups()
         states = self.parts.get(name) or self.hidden.get(name)
         if states is None:
-            raise TextError(f"no part or hidden variable '{name}' above")
+            raise TextError(f"no part or hidden variable '{short(name)}' above{hints(item)}")
         if state not in states:
-            raise TextError(f"'{name}' has no state '{state}', only {', '.join(states)}")
+            only = f"only {', '.join(states)}"
+            raise TextError(f"'{name}' has no state '{short(state)}', {only}{hints(item)}")
         return name, int(sign == "!="), list(states).index(state)
 
     def plant(self):
@@ -111,16 +137,24 @@ class Reader:
         return Plant(costs, sizes, clauses)
 
 
+def short(text):
+    return text if len(text) <= SHOWN_MOST else text[:SHOWN_MOST] + ".."
+
+
+def hints(item):
+    return "".join(f"; {hint}" for pattern, hint in HINTS if re.search(pattern, item))
+
+
 def checked_name(word):
     if not NAME.fullmatch(word) or word in RESERVED:
-        raise TextError(f"'{word}' is not a name")
+        raise TextError(f"'{short(word)}' is not a name")
     return word
 
 
 def distinct(names):
     for place, name in enumerate(names):
         if name in names[:place]:
-            raise TextError(f"state '{name}' is named twice")
+            raise TextError(f"state '{short(name)}' is named twice")
     return names
 
 
@@ -138,10 +172,40 @@ def declared(text):
 def state_and_cost(item):
     words = item.split()
     if len(words) != 2 or not re.fullmatch("[0-9]+", words[1]):
-        raise TextError(f"expected a state and its cost, found '{item}'")
-    if int(words[1]) > COST_MOST:
-        raise TextError(f"cost {words[1]} is above {COST_MOST}")
-    return checked_name(words[0]), int(words[1])
+        raise TextError(f"expected a state and its cost, found '{short(item)}'")
+    digits = words[1].lstrip("0") or "0"
+    if len(digits) > len(str(COST_MOST)) or int(digits) > COST_MOST:
+        raise TextError(f"cost {short(words[1])} is above {COST_MOST}")
+    return checked_name(words[0]), int(digits)
+
+
+def decoded(data, source):
+    """The text of these bytes, or plainly why they are none."""
+    if data.startswith(MARKS):
+        raise TextError(f"{source}: begins with a byte order mark; save it as UTF-8 without one")
+    if len(data) > TEXT_MOST:
+        raise TextError(f"{source}: longer than {TEXT_MOST:,} bytes, too long for a text")
+    found = NOT_IN_TEXT.search(data)
+    place = found.start() if found else len(data)
+    try:
+        text = data[:place].decode("utf-8")
+    except UnicodeDecodeError as error:
+        place = error.start
+    if place < len(data):
+        line = data.count(b"\n", 0, place) + 1
+        sheet = "; if it is a sheet, 'text' writes its text" if data[:1] == SHEET_BEGINS else ""
+        raise TextError(f"{source}:{line}: not a text: it has the byte {data[place]:#04x}{sheet}")
+    return text
+
+
+def read_bytes(path):
+    """Of a file, also of one without end, a byte more than any text or sheet has."""
+    with open(path, "rb") as file:
+        return file.read(TEXT_MOST + 1)
+
+
+def read_text(path):
+    return decoded(read_bytes(path), path)
 
 
 def parse(text, source="text"):
@@ -150,6 +214,8 @@ def parse(text, source="text"):
     lines = text.splitlines()
     try:
         for number, line in enumerate(lines, 1):
+            if len(line) > LINE_MOST:
+                raise TextError(f"a line of {len(line):,} characters; {LINE_MOST:,} is the most")
             reader.line(line)
         number = max(len(lines), 1)
         reader.plant()
@@ -179,21 +245,73 @@ def to_text(sheet):
     return "\n".join(lines) + "\n"
 
 
+def chosen(parts, code, mask):
+    """The states that the code gives to the mask's parts, each as the part's name,
+    the state's name, its number and its cost; an error where the plant has none such."""
+    if mask << len(parts) & (1 << 64) - 1 or code << 4 * len(parts) & (1 << 64) - 1:
+        raise TextError(f"a part beyond the {len(parts)} of this plant; {ANOTHER}")
+    found = []
+    for place, (name, states) in enumerate(parts.items()):
+        value = code >> (60 - 4 * place) & 15
+        if value >= len(states):
+            raise TextError(f"state {value} of '{name}', which has {len(states)}; {ANOTHER}")
+        if mask >> (63 - place) & 1:
+            found.append((name, list(states)[value], value, list(states.values())[value]))
+    return found
+
+
+def in_words(conflict):
+    words = [f"{name} {state}" for name, state, _, _ in conflict]
+    if not words:
+        return "no state fits"
+    if len(words) == 1:
+        return f"{words[0]}: impossible"
+    return f"{', '.join(words[:-1])} and {words[-1]}: not together"
+
+
 def named(line, parts):
-    """A line of a list with its code in names; other lines as they are."""
-    match = re.fullmatch(r"([0-9]+ [0-9]+) ([0-9a-f]{16})", line)
+    """A line of a list with its code in names, a conflict in words; other lines as
+    they are."""
+    conflict = CONFLICT.fullmatch(line)
+    if conflict:
+        return in_words(chosen(parts, int(conflict[2], 16), int(conflict[1], 16)))
+    match = LISTED.fullmatch(line)
     if not match:
         return line
-    digits = zip(parts.items(), match[2])
-    found = ((name, list(states), int(digit, 16)) for (name, states), digit in digits)
-    words = [f"{name}={states[value]}" for name, states, value in found if value]
+    every = (1 << 64) - (1 << (64 - len(parts)))
+    states = chosen(parts, int(match[3], 16), every)
+    cost = sum(cost for _, _, _, cost in states)
+    if cost != int(match[2]):
+        raise TextError(f"a state that costs {match[2]}, and {cost} in this plant; {ANOTHER}")
+    words = [f"{name}={state}" for name, state, value, _ in states if value]
     return f"{match[1]} {' '.join(words) or 'all in their first state'}"
+
+
+def print_named(text, parts, source):
+    for number, line in enumerate(text.splitlines(), 1):
+        try:
+            print(named(line, parts))
+        except TextError as error:
+            raise TextError(f"{source}:{number}: {error}") from None
+
+
+def list_states(path, host, k, limit):
+    """The named list of a text by the host program; its exit status."""
+    reader = parse(read_text(path), path)
+    command = [str(host), "-c", "-k", str(k), "-l", str(limit)]
+    try:
+        done = subprocess.run(command, input=encode(reader.plant()), stdout=subprocess.PIPE)
+    except OSError as error:
+        cure = "'make host' makes it, and --host says where it is"
+        raise TextError(f"{host}: no host program ({error.strerror}); {cure}") from None
+    print_named(decoded(done.stdout, host), reader.parts, host)
+    return done.returncode
 
 
 def check(path):
     """The stored sheet is the text's, and both survive the way there and back."""
-    text = path.read_text(encoding="utf-8")
-    sheet = path.with_suffix(".sheet").read_bytes()
+    text = read_text(path)
+    sheet = read_bytes(path.with_suffix(".sheet"))
     if to_sheet(text, path) != sheet:
         raise TextError(f"{path}: its sheet is another one")
     again = to_text(sheet)
@@ -201,31 +319,60 @@ def check(path):
         raise TextError(f"{path}: the way there and back gives another sheet")
 
 
-def run(command, paths):
-    if command == "sheet":
-        sys.stdout.buffer.write(to_sheet(paths[0].read_text(encoding="utf-8"), paths[0]))
-    elif command == "text":
-        sys.stdout.write(to_text(paths[0].read_bytes()))
-    elif command == "names":
-        parts = parse(paths[0].read_text(encoding="utf-8"), paths[0]).parts
-        for line in sys.stdin.read().splitlines():
-            print(named(line, parts))
+def write(data, path):
+    """To the file, or to standard output: only what is whole, so that an error
+    leaves no empty file."""
+    if path:
+        path.write_bytes(data)
     else:
-        for path in paths:
+        sys.stdout.buffer.write(data)
+
+
+def run(words):
+    first = words.files[0]
+    if words.command == "list":
+        return list_states(first, words.host, words.k, words.limit)
+    if words.command == "sheet":
+        write(to_sheet(read_text(first), first), words.output)
+    elif words.command == "text":
+        write(to_text(read_bytes(first)).encode(), words.output)
+    elif words.command == "names":
+        parts = parse(read_text(first), first).parts
+        lines = decoded(sys.stdin.buffer.read(TEXT_MOST + 1), "standard input")
+        print_named(lines, parts, "standard input")
+    else:
+        for path in words.files:
             check(path)
-        print(f"plant_text: {len(paths)} texts and their sheets, there and back")
+        print(f"plant_text: {len(words.files)} texts and their sheets, there and back")
+    return 0
+
+
+def arguments(words):
+    layout = argparse.RawDescriptionHelpFormatter
+    parser = argparse.ArgumentParser("plant_text.py", description=__doc__, formatter_class=layout)
+    commands = parser.add_subparsers(dest="command", required=True)
+    of = {name: commands.add_parser(name) for name in ("list", "sheet", "text", "names", "check")}
+    for name, command in of.items():
+        many = "+" if name == "check" else 1
+        command.add_argument("files", type=Path, metavar="FILE", nargs=many)
+    for name in ("sheet", "text"):
+        of[name].add_argument("-o", dest="output", type=Path, metavar="FILE", help="write there")
+    of["list"].add_argument("-k", type=int, default=16, help="states at most (16)")
+    of["list"].add_argument("--limit", type=int, default=1_000_000, help="trials at most (1000000)")
+    of["list"].add_argument("--host", default=HOST, help="the host program (target/host/leading_host)")
+    return parser.parse_args(words)
 
 
 def main(words):
-    if len(words) < 2 or words[0] not in ("sheet", "text", "names", "check"):
-        return __doc__
+    words = arguments(words)
     try:
-        run(words[0], [Path(word) for word in words[1:]])
-    except (TextError, OSError, UnicodeDecodeError) as error:
+        return run(words)
+    except TextError as error:
         return str(error)
+    except OSError as error:
+        return f"{error.filename or 'standard output'}: {error.strerror}"
     except Refusal as refusal:
-        return f"{words[1]}: not a sheet: {refusal}"
-    return 0
+        return f"{words.files[0]}: not a sheet: {refusal}"
 
 
 if __name__ == "__main__":

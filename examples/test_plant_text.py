@@ -1,11 +1,15 @@
 """What plant_text.py writes, and where it says that something cannot be written."""
 
+import contextlib
+import io
 import sys
+import tempfile
 import unittest
+from pathlib import Path
 
 sys.dont_write_bytecode = True
 
-from plant_text import TextError, named, parse, to_sheet, to_text  # noqa: E402
+from plant_text import TextError, decoded, main, named, parse, to_sheet, to_text  # noqa: E402
 
 TOP = "part lever: ahead 0, idle 3\nhidden shaft: still, turning\n"
 EXPECTED = "expected 'name = state' or 'name != state'"
@@ -33,6 +37,41 @@ ERRORS = [
     (TOP + "\n".join(f"hidden h{n}: s" for n in range(32)), "34: more than 32 hidden variables"),
     (TOP + "never\n" * 513, "515: more than 512 clauses"),
     (TOP + " or ".join(["lever = idle"] * 16), "3: more than 15 literals in a clause"),
+    ("part lever: ahead " + "9" * 5000, f"1: cost {'9' * 60}.. is above 65535"),
+    ("part lever: " + "a" * 100, f"1: expected a state and its cost, found '{'a' * 60}..'"),
+    (TOP + "#" * 10001, "3: a line of 10,001 characters; 10,000 is the most"),
+]
+
+# A clause as people write it, and the end of its message.
+HINTS = [
+    ("lever = idle OR shaft = still", "found 'lever = idle OR shaft = still'; write 'or' in small letters"),
+    ("lever = idle || shaft = still", "; write 'or' in small letters"),
+    ("lever = idle and shaft = still", "; for 'and' write a line each: all lines have to hold"),
+    ("lever = idle AND shaft = still", "; for 'and' write a line each: all lines have to hold"),
+    ("lever == idle", "; write '=' for equal"),
+    ("lever==idle", "'lever' has no state '=idle', only ahead, idle; write '=' for equal"),
+    ("lever = idle -> shaft = still", "; for 'a = x -> b = y' write 'a != x or b = y'"),
+    ("lever=idle->shaft=still", "; for 'a = x -> b = y' write 'a != x or b = y'"),
+]
+
+# Bytes that are no text, and the message.
+NO_TEXTS = [
+    (b"\xef\xbb\xbf" + TOP.encode(), ": begins with a byte order mark; save it as UTF-8 without one"),
+    (TOP.encode("utf-16"), ": begins with a byte order mark; save it as UTF-8 without one"),
+    (b"#\n\xff", ":2: not a text: it has the byte 0xff"),
+    (b"#\n\n\0#", ":3: not a text: it has the byte 0x00"),
+    (b"\x01\x10", ":1: not a text: it has the byte 0x01; if it is a sheet, 'text' writes its text"),
+    (b"#" * ((1 << 22) + 1), ": longer than 4,194,304 bytes, too long for a text"),
+]
+
+# Lines of another plant's list, and the message; this plant has one part of two states.
+OF_OTHERS = [
+    ("1 3 2000000000000000", "state 2 of 'lever', which has 2"),
+    ("1 3 1100000000000000", "a part beyond the 1 of this plant"),
+    ("1 3 1000000000000001", "a part beyond the 1 of this plant"),
+    ("1 4 1000000000000000", "a state that costs 4, and 3 in this plant"),
+    ("conflict 4000000000000000 0000000000000000", "a part beyond the 1 of this plant"),
+    ("conflict 8000000000000000 f000000000000000", "state 15 of 'lever', which has 2"),
 ]
 
 
@@ -65,6 +104,63 @@ class PlantText(unittest.TestCase):
         self.assertEqual(named("2 3 1000000000000000", parts), "2 3 lever=idle")
         self.assertEqual(named("1 0 0000000000000000", parts), "1 0 all in their first state")
         self.assertEqual(named("refused 5", parts), "refused 5")
+
+    def test_conflicts(self):
+        parts = parse("\n".join(f"part {name}: well 0, ill 1" for name in "abc")).parts
+        words = {
+            "0000000000000000 0000000000000000": "no state fits",
+            "4000000000000000 0100000000000000": "b ill: impossible",
+            "a000000000000000 0010000000000000": "a well and c ill: not together",
+            "e000000000000000 0000000000000000": "a well, b well and c well: not together",
+        }
+        for conflict, expected in words.items():
+            self.assertEqual(named("conflict " + conflict, parts), expected)
+
+    def test_lists_of_others(self):
+        for line, message in OF_OTHERS:
+            with self.subTest(line), self.assertRaises(TextError) as caught:
+                named(line, parse(TOP).parts)
+            expected = message + "; is this the list of another plant?"
+            self.assertEqual(str(caught.exception), expected)
+
+    def test_hints(self):
+        for clause, message in HINTS:
+            with self.subTest(clause), self.assertRaises(TextError) as caught:
+                to_sheet(TOP + clause)
+            self.assertTrue(str(caught.exception).endswith(message), caught.exception)
+
+    def test_no_texts(self):
+        for data, message in NO_TEXTS:
+            with self.subTest(message), self.assertRaises(TextError) as caught:
+                decoded(data, "it")
+            self.assertEqual(str(caught.exception), "it" + message)
+        self.assertEqual(decoded("# \u00e9\t\r\n".encode(), "it"), "# \u00e9\t\r\n")
+
+    def test_files(self):
+        """An error leaves no sheet behind, and what was there stays; files that are none."""
+        with tempfile.TemporaryDirectory() as folder:
+            text, sheet = Path(folder, "a.plant"), Path(folder, "a.sheet")
+            text.write_text(TOP + "levr = idle")
+            self.assertIn("no part or hidden", main(["sheet", str(text), "-o", str(sheet)]))
+            self.assertFalse(sheet.exists())
+            text.write_text(TOP)
+            self.assertEqual(main(["sheet", str(text), "-o", str(sheet)]), 0)
+            self.assertEqual(sheet.read_bytes(), to_sheet(TOP))
+            self.assertEqual(main(["text", str(sheet), "-o", str(text)]), 0)
+            self.assertEqual(to_sheet(text.read_text()), sheet.read_bytes())
+            self.assertEqual(main(["sheet", folder]), f"{folder}: Is a directory")
+            absent = str(Path(folder, "absent"))
+            self.assertEqual(main(["names", absent]), f"{absent}: No such file or directory")
+            self.assertIn("'make host' makes it", main(["list", str(text), "--host", absent]))
+
+    def test_help(self):
+        for words, status in ((["--help"], 0), ([], 2), (["sheets", "a"], 2)):
+            said = io.StringIO()
+            with self.subTest(words), self.assertRaises(SystemExit) as caught:
+                with contextlib.redirect_stdout(said), contextlib.redirect_stderr(said):
+                    main(words)
+            self.assertEqual(caught.exception.code, status)
+            self.assertIn("usage: plant_text.py", said.getvalue())
 
 
 if __name__ == "__main__":

@@ -240,6 +240,28 @@ check_texts() {
     say "texts, sheets and lists of the examples"
 }
 
+# $1 what the command has to print, its words: from a text to a named list
+lists() {
+    local expected=$1
+    shift
+    python3 -B examples/plant_text.py list "$@" > "$out/printed"
+    printf '%s\n' "$expected" | cmp - "$out/printed"
+}
+
+# by the host that is left in target/host
+check_named() {
+    local none=$out/none.plant status=0
+    lists "$(block examples/README.md '<!-- list -->' '<!-- end -->' 1 | sed '1,2d;s/^    //;/^$/d')" \
+        examples/small.plant
+    lists $'1 3 clutch=open\nspent 1 tested 2 learned 1 unkept 0 trials 13
+selector ahead and clutch closed: not together' -k 16 --limit 13 examples/small.plant
+    printf 'part lever: ahead 0, idle 3\nnever\n' > "$none"
+    lists $'all 0 tested 1 learned 1 unkept 0 trials 0\nno state fits' "$none"
+    python3 -B examples/plant_text.py list -k 0 "$none" > "$out/printed" 2> "$out/reason" || status=$?
+    [ "$status" = 1 ] && grep -q 'k is not 1 to 4096' "$out/reason" || fail "list -k 0: status $status"
+    say "from a text to a named list"
+}
+
 cc=$(command -v gcc || command -v clang) || { say "no C compiler"; exit 1; }
 in_header=$(grep -c '^ \* @code$' include/leading.h)
 check_texts
@@ -250,3 +272,4 @@ check_sanitized
 check_stack "$cc"
 check_installed "$cc"
 cp "$out/$(basename "$cc")/leading_host" "$out/leading_host"
+check_named
