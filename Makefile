@@ -13,9 +13,10 @@ help:
 	@echo 'make bench     figures: ours, a plain and a same-design implementation in C'
 	@echo 'make install   header, archive, leading.pc and manual to PREFIX ($(PREFIX)), under DESTDIR'
 
+# what rt says at length is in target/run.log
 run:
-	rt check leading
-	./target/bin/leading < crates/leading/stdin
+	@bash .ci/prove leading target/run.log
+	@./target/bin/leading < crates/leading/stdin
 
 prove:
 	rt check

@@ -262,9 +262,38 @@ selector ahead and clutch closed: not together' -k 16 --limit 13 examples/small.
     say "from a text to a named list"
 }
 
+# $1 a status: what `make run` shows of a prover that ends so, and that its log is whole
+check_run() {
+    local prover=$PWD/$out/prover shown=$out/shown log=$out/run.log status=0
+    mkdir -p "$prover"
+    cat > "$prover/rt" << END
+#!/bin/sh
+echo 'fn model::any: proved'
+echo 'rt: model proved (9 s)'
+echo "rt: theory NOT PROVED: asked to \$*"
+exit $1
+END
+    chmod +x "$prover/rt"
+    PATH=$prover:$PATH bash .ci/prove theory "$log" > "$shown" || status=$?
+    [ "$status" = "$1" ] || fail "make run: status $status where rt has $1"
+    [ "$(head -n 2 "$shown")" = 'crate 1 of 2: model proved (9 s)
+rt: theory NOT PROVED: asked to check theory' ] || fail "make run shows: $(cat "$shown")"
+    { "$prover/rt" check theory || true; } | cmp - "$log"
+}
+
+check_make() {
+    check_run 0
+    check_run 1
+    have make || return 0
+    make -s --no-print-directory > "$out/shown" 2> /dev/null
+    grep -q '^make run ' "$out/shown" || fail "make alone is no help"
+    say "make alone, and what make run shows"
+}
+
 cc=$(command -v gcc || command -v clang) || { say "no C compiler"; exit 1; }
 in_header=$(grep -c '^ \* @code$' include/leading.h)
 check_texts
+check_make
 check_headers
 check_manual "$cc"
 check_programs
