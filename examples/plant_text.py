@@ -357,9 +357,10 @@ def arguments(words):
         command.add_argument("files", type=Path, metavar="FILE", nargs=many)
     for name in ("sheet", "text"):
         of[name].add_argument("-o", dest="output", type=Path, metavar="FILE", help="write there")
-    of["list"].add_argument("-k", type=int, default=16, help="states at most (16)")
-    of["list"].add_argument("--limit", type=int, default=1_000_000, help="trials at most (1000000)")
-    of["list"].add_argument("--host", default=HOST, help="the host program (target/host/leading_host)")
+    listing = of["list"].add_argument
+    listing("-k", type=int, default=16, metavar="STATES", help="to list at most (16)")
+    listing("--limit", type=int, default=1_000_000, metavar="TRIALS", help="at most (1000000)")
+    listing("--host", default=HOST, metavar="PROGRAM", help="(target/host/leading_host)")
     return parser.parse_args(words)
 
 

@@ -44,7 +44,7 @@ ERRORS = [
 
 # A clause as people write it, and the end of its message.
 HINTS = [
-    ("lever = idle OR shaft = still", "found 'lever = idle OR shaft = still'; write 'or' in small letters"),
+    ("lever = idle OR shaft = still", "OR shaft = still'; write 'or' in small letters"),
     ("lever = idle || shaft = still", "; write 'or' in small letters"),
     ("lever = idle and shaft = still", "; for 'and' write a line each: all lines have to hold"),
     ("lever = idle AND shaft = still", "; for 'and' write a line each: all lines have to hold"),
@@ -55,9 +55,10 @@ HINTS = [
 ]
 
 # Bytes that are no text, and the message.
+MARK = ": begins with a byte order mark; save it as UTF-8 without one"
 NO_TEXTS = [
-    (b"\xef\xbb\xbf" + TOP.encode(), ": begins with a byte order mark; save it as UTF-8 without one"),
-    (TOP.encode("utf-16"), ": begins with a byte order mark; save it as UTF-8 without one"),
+    (TOP.encode("utf-8-sig"), MARK),
+    (TOP.encode("utf-16"), MARK),
     (b"#\n\xff", ":2: not a text: it has the byte 0xff"),
     (b"#\n\n\0#", ":3: not a text: it has the byte 0x00"),
     (b"\x01\x10", ":1: not a text: it has the byte 0x01; if it is a sheet, 'text' writes its text"),

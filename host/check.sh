@@ -101,7 +101,8 @@ exercise() {
     local conflict='conflict c000000000000000 0000000000000000'
     prints "$host" "$one" -k 1 $small
     prints "$host" "$one"$'\n'"$conflict" -k 1 -c $small
-    prints "$host" $'1 3 0100000000000000\nenough 1 tested 2 learned 0 unkept 1 trials 3' -c -k 1 -s 0 $small
+    prints "$host" "${one/learned 1 unkept 0 trials 13/learned 0 unkept 1 trials 3}" \
+        -c -k 1 -s 0 $small
     prints "$host" 'full 0 tested 0 learned 0 unkept 0 trials 0' -q 2 $small
     prints "$host" 'spent 0 tested 1 learned 0 unkept 0 trials 5' -l 5 -s 4096 $small
     prints "$host" 'refused 1' -k 0 $small
@@ -250,15 +251,25 @@ lists() {
 
 # by the host that is left in target/host
 check_named() {
-    local none=$out/none.plant status=0
-    lists "$(block examples/README.md '<!-- list -->' '<!-- end -->' 1 | sed '1,2d;s/^    //;/^$/d')" \
-        examples/small.plant
-    lists $'1 3 clutch=open\nspent 1 tested 2 learned 1 unkept 0 trials 13
-selector ahead and clutch closed: not together' -k 16 --limit 13 examples/small.plant
+    local none=$out/none.plant status=0 said name
+    said=$(block examples/README.md '<!-- list -->' '<!-- end -->' 1 | sed '1,2d;s/^    //')
+    lists "$said" examples/small.plant
+    lists 'spent 0 tested 1 learned 0 unkept 0 trials 5' --limit 5 examples/small.plant
+    lists $'1 3 clutch=open\nenough 1 tested 2 learned 1 unkept 0 trials 13\n'"${said##*$'\n'}" \
+        -k 1 examples/small.plant
     printf 'part lever: ahead 0, idle 3\nnever\n' > "$none"
     lists $'all 0 tested 1 learned 1 unkept 0 trials 0\nno state fits' "$none"
-    python3 -B examples/plant_text.py list -k 0 "$none" > "$out/printed" 2> "$out/reason" || status=$?
-    [ "$status" = 1 ] && grep -q 'k is not 1 to 4096' "$out/reason" || fail "list -k 0: status $status"
+    python3 -B examples/plant_text.py list -k 0 "$none" > "$out/printed" 2> "$out/reason" ||
+        status=$?
+    [ "$status" = 1 ] || fail "list -k 0: status $status"
+    grep -q 'k is not 1 to 4096' "$out/reason" || fail "list -k 0: $(cat "$out/reason")"
+    for name in "${examples[@]}"; do
+        python3 -B examples/plant_text.py names "examples/$name.plant" \
+            < "examples/$name.list" > "$out/printed"
+    done
+    ! python3 -B examples/plant_text.py names examples/small.plant \
+        < examples/driveline.list > "$out/printed" 2> "$out/reason" || fail "names of another plant"
+    grep -q 'of another plant?' "$out/reason" || fail "names: $(cat "$out/reason")"
     say "from a text to a named list"
 }
 

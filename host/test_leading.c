@@ -1,6 +1,7 @@
 /* leading.h against the runs P1 to P11 of the specification, tests and reductions
  * on the small plant, and each refusal: what is returned, and every word of every
- * buffer, those around them too. Runs that offer what another learned. Then the version, the texts and LEADING_PARTS.
+ * buffer, those around them too. Then runs that offer what another learned, the
+ * version, the texts and LEADING_PARTS.
  */
 #include "leading.h"
 
