@@ -93,9 +93,9 @@ extern "C" {
 /* Of this interface. MAJOR rises with a change that breaks callers, MINOR with
  * one that adds to it. */
 #define LEADING_VERSION_MAJOR 0
-#define LEADING_VERSION_MINOR 2
+#define LEADING_VERSION_MINOR 3
 #define LEADING_VERSION_PATCH 0
-#define LEADING_VERSION "0.2.0"
+#define LEADING_VERSION "0.3.0"
 
 /* The three in one number, for #if and for leading_version(). */
 #define LEADING_VERSION_NUMBER                                       \
@@ -191,7 +191,8 @@ enum leading_result {
     LEADING_LISTED = 1,  /* states listed: words of codes and of costs written */
     LEADING_TESTED = 2,  /* states of the plant tested to the end */
     LEADING_LEARNED = 3, /* conflicts found in this run and put in the store */
-    LEADING_UNKEPT = 4,  /* conflicts not kept since the store was full */
+    LEADING_UNKEPT = 4,  /* states that did not fit, met with the store full:
+                          * nothing is learned of them */
     LEADING_TRIALS = 5   /* trials made in all; never above limit */
 };
 
@@ -200,8 +201,8 @@ enum leading_ending {
     LEADING_ENOUGH = 1, /* k states are listed; there may be more */
     LEADING_ALL = 2,    /* every state that fits is listed */
     LEADING_FULL = 3,   /* the queue had too few entries to go on */
-    LEADING_SPENT = 4   /* a trial beyond the limit was wanted, or 2^32 - 1
-                           states are tested */
+    LEADING_SPENT = 4   /* a trial beyond the limit was wanted, or one test
+                         * more than 2^32 - 1 */
 };
 
 /* The places of a test's and a reduction's result words. */
@@ -339,8 +340,9 @@ static inline const char *leading_reduce_text(uint32_t answer)
  * library keeps no pointer. A count after a pointer is in elements, not bytes.
  * Pointers are not NULL, also where the count is 0, and are aligned as their type
  * asks. No two buffers overlap, the sheet among them. While the call lasts nobody
- * else writes the sheet or touches the other buffers. Apart from refusals 1 to
- * 4, none of this is checked: as with memcpy, breaking it is undefined.
+ * else writes the sheet or touches the other buffers. Apart from the
+ * counts that refusals 1 to 4 name, none of this is checked: as with memcpy,
+ * breaking it is undefined.
  */
 
 /*
