@@ -203,7 +203,7 @@ static void list_line(const struct lent *l, uint32_t refusal, char *line)
     static const char *const endings[] = {"?", "enough", "all", "full", "spent"};
     const uint32_t *r = l->result;
     if (refusal)
-        snprintf(line, LINE_MOST, "refused %" PRIu32, refusal);
+        snprintf(line, LINE_MOST, "refused %" PRIu32 " %08" PRIx32, refusal, lent_checksum(l));
     else
         snprintf(line, LINE_MOST,
                  "%s %" PRIu32 " %" PRIu32 " %" PRIu32 " %" PRIu32 " %" PRIu32 " %08" PRIx32,
@@ -309,17 +309,27 @@ static void check_run(const char *path, struct bytes sheet, struct settings sett
     check_listing(path, sheet, settings, &lengths, given, 2 * settings.held, NULL);
 }
 
+/* This refusal, with every lent word as it was. */
+static void check_refused(const char *path, struct bytes sheet, struct settings settings,
+                          const struct lent *lengths, uint32_t refusal)
+{
+    char wanted[LINE_MOST];
+    lend(lengths, NULL, 0);
+    list_line(&lent, refusal, wanted);
+    check_listing(path, sheet, settings, lengths, NULL, 0, wanted);
+}
+
 /* Fewer than six result words are refused, after k and before the queue. */
 static void check_short_result(const char *path, struct bytes sheet)
 {
     static struct lent lengths = {.codes_len = 16, .costs_len = 16, .result_len = 5};
     struct settings settings = {16, 0, 1000};
-    check_listing(path, sheet, settings, &lengths, NULL, 0, "refused 2");
+    check_refused(path, sheet, settings, &lengths, 2);
     settings.k = 0;
-    check_listing(path, sheet, settings, &lengths, NULL, 0, "refused 1");
+    check_refused(path, sheet, settings, &lengths, 1);
     lengths.result_len = RESULT_WORDS;
     settings.k = 16;
-    check_listing(path, sheet, settings, &lengths, NULL, 0, "refused 3");
+    check_refused(path, sheet, settings, &lengths, 3);
     lengths.result_len = 5;
 }
 
