@@ -373,7 +373,8 @@ def main(words):
     except OSError as error:
         return f"{error.filename or 'standard output'}: {error.strerror}"
     except Refusal as refusal:
-        return f"{words.files[0]}: not a sheet: {refusal}"
+        hint = "" if NOT_IN_TEXT.search(read_bytes(words.files[0])) else "; this looks like text already"
+        return f"{words.files[0]}: not a sheet: {refusal}{hint}"
 
 
 if __name__ == "__main__":

@@ -149,6 +149,7 @@ class PlantText(unittest.TestCase):
             self.assertEqual(sheet.read_bytes(), to_sheet(TOP))
             self.assertEqual(main(["text", str(sheet), "-o", str(text)]), 0)
             self.assertEqual(to_sheet(text.read_text()), sheet.read_bytes())
+            self.assertIn("looks like text already", main(["text", str(text)]))
             self.assertEqual(main(["sheet", folder]), f"{folder}: Is a directory")
             absent = str(Path(folder, "absent"))
             self.assertEqual(main(["names", absent]), f"{absent}: No such file or directory")
