@@ -2,10 +2,11 @@
 // it runs past the end. A field of at most 16 bits is taken from the three bytes around its place. The functions on a slice and
 // a place do the work; the reader further down holds both, and `three` goes through it with plain parameters.
 ghost use mathlib.Core.Path.{_≡_};
-ghost use Prim.Native.Nat.{_+_, _/_, _%_, _≤_, _<_, _^_};
-ghost use lib.ListN.{getD, drop};
-ghost use Rattle.model.specs.Digits.{number};
+ghost use Prim.Native.Nat.{_+_, _*_, _/_, _%_, _≤_, _<_, _^_};
+ghost use lib.ListN.{length, getD, drop, set};
+ghost use Rattle.model.specs.Digits.{number, digits};
 ghost use Rattle.model.specs.Sheet.{bitsAt, field};
+ghost use Rattle.theory.specs.Puts.{Puts, bitsOf};
 ghost use Rattle.bits.specs.Field.{fieldOf};
 
 // What stands at a place: a number, or nothing because the field runs past the end.
@@ -111,4 +112,32 @@ pub fn three(sheet: &[u8], place: usize, a: usize, b: usize, c: usize) -> Fields
         second,
         third,
     }
+}
+
+// Sets a byte of the sheet; past the end there is none.
+fn set_byte(sheet: &mut [u8], i: usize, b: u32)
+    requires { ⌜ b < 256 ⌝ }
+    ensures { λ _. ⌜ now (sheet .exit) ≡ set (now (sheet .entry)) i b ⌝ }
+{
+    if i < sheet.len() {
+        sheet[i] = b as u8;
+    }
+}
+
+// Puts a number as the field of w bits at a place, and answers the place after it. Every other bit stays.
+pub fn put(sheet: &mut [u8], place: usize, w: usize, v: u32) -> usize
+    requires { ⌜ (w ≤ 16) × (v < 2 ^ w) × (place + w ≤ 8 * length (now sheet)) × (place + w < 2 ^ 64) ⌝ }
+    ensures { λ r. ⌜ Puts place (digits 2 w v) (bitsOf (now (sheet .entry))) r (bitsOf (now (sheet .exit))) ⌝ }
+{
+    let all = word(sheet, place);
+    let behind = after(place, w);
+    let above = behind + w;
+    let top = all >> above << above;
+    let low = all & ((1 << behind) - 1);
+    let new = top + (v << behind) + low;
+    let i = place / 8;
+    set_byte(sheet, i, new >> 16);
+    set_byte(sheet, i + 1, (new >> 8) & 255);
+    set_byte(sheet, i + 2, new & 255);
+    place + w
 }

@@ -7,6 +7,8 @@ pub mod Conflict
 pub mod Order
 pub mod Listing
 pub mod Calls
+pub mod Tables
+pub mod TableCalls
 pub mod Text
 pub mod Examples
 pub mod Edges

@@ -7,7 +7,7 @@ use lib.ListN.{length, take, drop, set, length-drop, take-append-drop}
 use lib.Seq.{take-append-le, drop-append-le, length-take-le, lt-length-set}
 use borrow.Rule.Slice.PartMut.{putMid}
 use Rattle.model.specs.Sheet.{Literal}
-use Rattle.theory.specs.Tables.{literals, clauses, total}
+use Rattle.model.specs.Tables.{literals, clauses, total}
 use Rattle.readings.proofs.Tables.{take-write, given-back}
 
 -- ---- literals

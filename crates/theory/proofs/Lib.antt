@@ -18,6 +18,7 @@ pub mod Longest
 pub mod Moves
 pub mod Nodes
 pub mod Order
+pub mod Puts
 pub mod Queue
 pub mod Reduction
 pub mod ReductionSteps

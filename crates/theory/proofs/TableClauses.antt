@@ -8,7 +8,7 @@ use lib.ListN.{length, getD, take, drop, length-drop, drop-of-length-le}
 use lib.Seq.{drop-cons, drop-drop, getD-drop}
 use Rattle.model.specs.Lists.{All}
 use Rattle.model.specs.Sheet.{Literal}
-use Rattle.theory.specs.Tables.{literals, clauses, total}
+use Rattle.model.specs.Tables.{literals, clauses, total}
 use Rattle.theory.specs.Search.{nth}
 
 -- ---- literals

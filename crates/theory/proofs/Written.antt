@@ -11,15 +11,16 @@ use lib.ListN.{length, getD, take, drop, replicate, length-append, length-take, 
 use lib.Pow.{pow-pos}
 use lib.Seq.{getD-take, getD-drop}
 use borrow.Author.Tests.{le-leb, lt-ltb, eq-eqb}
-use Rattle.model.specs.Lists.{All}
+use Rattle.model.specs.Lists.{All, inTurn}
 use Rattle.model.specs.Digits.{number, digits}
 use Rattle.model.specs.Sheet.{Literal, Plant, sizes, Read, refused, got, bitAt, bitsAt, then, many, field, Edition, edition1, decisionsAllowed, readDecision, readState, readLiteral, readClause, readFiller, readEnd, readBody, readSheet}
+use Rattle.model.specs.Tables.{decisionWritten, stateWritten, literalWritten, clauseWritten, bodyWritten, plantWritten, packed, sheetOf}
 use Rattle.model.specs.Examples.{tail, small}
 use Rattle.model.specs.Edges.{smallPlant}
 use Rattle.theory.specs.Digits.{Below}
 use Rattle.theory.specs.Longest.{headBits, decisionBits, stateBits, clauseBits, longestSheet}
 use Rattle.theory.specs.Plant.{Sized, Present, Accepted}
-use Rattle.theory.specs.Written.{inTurn, decisionWritten, stateWritten, literalWritten, clauseWritten, bodyWritten, plantWritten, packed, sheetOf, firstLiteral, fullPlant, largestPlant}
+use Rattle.theory.specs.Written.{firstLiteral, fullPlant, largestPlant}
 use Rattle.theory.proofs.Digits.{digits-length, digits-below, digits-number, number-digits}
 use Rattle.theory.proofs.Fields.{below-drop}
 use Rattle.theory.proofs.Lists.{all-map, all-join, all-zip, all-image, all-at}

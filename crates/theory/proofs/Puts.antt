@@ -6,7 +6,7 @@ use native.Mathlib.Omega.{arith}
 use native.Mathlib.Nat.{add-zero}
 use lib.ListN.{length, getD, take, drop, set, length-append, length-drop, take-append-drop}
 use lib.Seq.{length-take-le, take-suc, set-at, take-at, drop-append-add, drop-drop}
-use Rattle.text.specs.Written.{written, Puts}
+use Rattle.theory.specs.Puts.{written, Puts}
 
 -- what stands before the rest is as long as it should be
 head-length : (place : ℕ) (text before : List ℕ) → place ≤ length before → length (take place before ++ text) ≡ place + length text
