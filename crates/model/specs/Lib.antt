@@ -16,4 +16,5 @@ pub mod Refusals
 pub mod Alone
 pub mod Exports
 pub mod Parts
+pub mod TableExamples
 pub mod TextExamples
