@@ -374,7 +374,7 @@ static inline const char *leading_reduce_text(uint32_t answer)
  * Pointers are not NULL, also where the count is 0, and are aligned as their type
  * asks. No two buffers overlap, the sheet among them. While the call lasts nobody
  * else writes the sheet or touches the other buffers. Apart from the
- * counts that refusals 1 to 4 name, none of this is checked: as with memcpy,
+ * counts that refusals 1 to 4, 16 and 18 name, none of this is checked: as with memcpy,
  * breaking it is undefined.
  */
 
