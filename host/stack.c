@@ -85,7 +85,7 @@ static void reduce(void)
             conflict[LEADING_CONFLICT_MASK] == LEADING_MASK(0);
 }
 
-/* Of all that the sheet says, there and back. */
+/* What the sheet says. */
 static uint8_t sizes[LEADING_SIZE_ENTRIES], counts[LEADING_COUNT_ENTRIES];
 static uint8_t literals[LEADING_LITERAL_BYTES];
 static uint16_t costs[LEADING_COST_ENTRIES];
@@ -96,7 +96,7 @@ static void read_tables(void)
     meant = leading_read(sheet, sheet_len, sizes, costs, counts, literals, numbers) == LEADING_OK;
 }
 
-/* The tables of the last reading: one literal in each clause, two values a part. */
+/* One literal in each clause, two values a part. */
 static void write_tables(void)
 {
     static uint8_t again[LEADING_SHEET_BYTES_MOST];
@@ -136,6 +136,7 @@ static size_t used_by(void (*function)(void))
 static bool keeps_within(const struct call *call, unsigned clauses)
 {
     write_sheet(clauses);
+    read_tables();    /* what leading_write is given */
     call->function(); /* so that memset is bound already */
     meant = false;
     size_t used = used_by(call->function);
