@@ -1,5 +1,6 @@
 pub mod Agreement
 pub mod BestFirst
+pub mod Bits
 pub mod BruteForce
 pub mod Children
 pub mod Containment

@@ -23,7 +23,7 @@ unfolding written
 written-none place before = rw (append-nil (take place before), add-zero place) (take-append-drop place before)
 
 -- what is left n places past a first list
-drop-past : (xs ys : List ℕ) (m n : ℕ) → length xs ≡ m → drop (m + n) (xs ++ ys) ≡ drop n ys
+pub drop-past : (xs ys : List ℕ) (m n : ℕ) → length xs ≡ m → drop (m + n) (xs ++ ys) ≡ drop n ys
 drop-past xs ys m n e = rw (← e) (drop-append-add xs ys n)
 
 -- one text put after another is the two put as one

@@ -33,17 +33,17 @@ zero-at zero v = refl
 zero-at (suc n) zero = refl
 zero-at (suc n) (suc v) = zero-at n v
 
-zeros-behind : (ds : List ℕ) (n v : ℕ) → getD (ds ++ replicate n 0) v 0 ≡ getD ds v 0
+pub zeros-behind : (ds : List ℕ) (n v : ℕ) → getD (ds ++ replicate n 0) v 0 ≡ getD ds v 0
 zeros-behind [] n v = zero-at n v
 zeros-behind (d ∷ ds) n zero = refl
 zeros-behind (d ∷ ds) n (suc v) = zeros-behind ds n v
 
-below-take : (b n : ℕ) (ds : List ℕ) → Below b ds → Below b (take n ds)
+pub below-take : (b n : ℕ) (ds : List ℕ) → Below b ds → Below b (take n ds)
 below-take b zero ds h = tt
 below-take b (suc n) [] h = tt
 below-take b (suc n) (d ∷ ds) h = (h .0, below-take b n ds (h .1))
 
-packed-length : (n : ℕ) (bits : List ℕ) → length (packed n bits) ≡ n
+pub packed-length : (n : ℕ) (bits : List ℕ) → length (packed n bits) ≡ n
 unfolding packed
 packed-length zero bits = refl
 packed-length (suc n) bits = ap suc (packed-length n (drop 8 bits))
@@ -232,7 +232,7 @@ module _ (e : Edition) (sheet : List ℕ) where
       rule-comes (leb (length (p .clauses)) 512) 9 _ x (le-leb (length (p .clauses)) 512 (ok .clauses))
       (body-reads p x (0 + length edition + length decisions + length states + length clauses) (length (plantWritten e p)) few ok h is f))))))))
 
-below-in-turn : {A : Type 0} (bits : A → List ℕ) → ((a : A) → Below 2 (bits a)) → (xs : List A) → Below 2 (inTurn bits xs)
+pub below-in-turn : {A : Type 0} (bits : A → List ℕ) → ((a : A) → Below 2 (bits a)) → (xs : List A) → Below 2 (inTurn bits xs)
 below-in-turn bits f [] = tt
 below-in-turn bits f (x ∷ xs) = all-join (λ d. d < 2) (bits x) (inTurn bits xs) (f x) (below-in-turn bits f xs)
 
