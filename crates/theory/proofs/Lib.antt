@@ -19,6 +19,7 @@ pub mod Longest
 pub mod Moves
 pub mod Nodes
 pub mod Order
+pub mod PlantTables
 pub mod Puts
 pub mod Queue
 pub mod Reduction

@@ -255,7 +255,7 @@ module _ (e : Edition) (p : Plant) where
       join : (xs ys : List ℕ) → Below 2 xs → Below 2 ys → Below 2 (xs ++ ys)
       join = all-join (λ d. d < 2)
 
-  written-length : length (plantWritten e p) ≡ headBits + length (inTurn (decisionWritten e) (p .costs)) + length (inTurn stateWritten (p .states)) + length (inTurn clauseWritten (p .clauses))
+  pub written-length : length (plantWritten e p) ≡ headBits + length (inTurn (decisionWritten e) (p .costs)) + length (inTurn stateWritten (p .states)) + length (inTurn clauseWritten (p .clauses))
   unfolding plantWritten
   written-length =
       let rows : List ℕ = inTurn (decisionWritten e) (p .costs) in
@@ -279,7 +279,7 @@ module _ (e : Edition) (p : Plant) where
         digits-length 2 10 (length (p .clauses)),
       )
 
-  sheet-length : length (sheetOf e p) ≡ (length (plantWritten e p) + 7) / 8
+  pub sheet-length : length (sheetOf e p) ≡ (length (plantWritten e p) + 7) / 8
   unfolding sheetOf
   sheet-length = packed-length ((length (plantWritten e p) + 7) / 8) (plantWritten e p)
 
