@@ -42,4 +42,5 @@ pub mod WordsDigits
 pub mod WordsParallel
 pub mod WordsSet
 pub mod WordsWide
+pub mod WriteRead
 pub mod Written

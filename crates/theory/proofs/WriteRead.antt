@@ -1,0 +1,97 @@
+-- Reading a written sheet returns the tables, and writing what was read returns the sheet's bytes. Assumes nothing.
+use mathlib.Core.Path.{_≡_, refl}
+use mathlib.Core.Bool.{true, not}
+use mathlib.Core.Option.{Option, none, some}
+use mathlib.Core.List.{List}
+use Prim.Native.Nat.{ℕ, _*_, _^_}
+use native.Mathlib.Omega.{arith}
+use lib.ListN.{length}
+use borrow.Author.Tests.{not-false}
+use Rattle.model.specs.Lists.{filled}
+use Rattle.model.specs.Sheet.{Plant, Read, got, edition1, readSheet}
+use Rattle.model.specs.Calls.{firstGiven, answered}
+use Rattle.model.specs.Tables.{Tables, plantOf, tablesOf, sheetOf}
+use Rattle.model.specs.TableCalls.{Wrote, lengthsAgree, lengthGrounds, tableGrounds, roomGrounds, writeSheet, writeCall, readTables, tablesAfter}
+use Rattle.theory.specs.Digits.{Below}
+use Rattle.theory.specs.WriteRead.{Written, WritePromises, ReadPromises}
+use Rattle.theory.proofs.Filled.{filled-take}
+use Rattle.theory.proofs.Longest.{no-longer}
+use Rattle.theory.proofs.PlantTables.{none-given, plant-back, tables-agree, tables-back, tables-accepted, accepted-tables, front-back}
+use Rattle.theory.proofs.Sheet.{accepted-any}
+use Rattle.theory.proofs.Written.{written, sheet-length}
+
+-- ---- what is written
+
+-- the lengths agree with the numbers exactly when no ground is given by them
+none-agree : (t : Tables) → firstGiven (lengthGrounds t) ≡ none → lengthsAgree t ≡ true
+unfolding lengthGrounds
+none-agree t h = not-false (lengthsAgree t) (none-given (not (lengthsAgree t)) 16 _ h .0)
+
+agree-none : (t : Tables) → lengthsAgree t ≡ true → firstGiven (lengthGrounds t) ≡ none
+unfolding lengthGrounds firstGiven
+agree-none t h = rw (lengthGrounds, firstGiven, h)
+
+module _ (t : Tables) (agree : lengthsAgree t ≡ true) (fit : firstGiven (tableGrounds edition1 t) ≡ none) where
+  -- of tables within the rules the sheet is written, where there is room for it
+  pub call-writes : (buffer : List ℕ) → writeCall t buffer ≡ writeSheet (sheetOf edition1 (plantOf t)) buffer
+  unfolding writeCall
+  call-writes buffer = rw (writeCall, agree-none t agree, fit)
+
+  module _ (small : Below (2 ^ 16) (t .costs)) where
+    abbrev sheet : List ℕ
+    sheet = sheetOf edition1 (plantOf t)
+
+    sheet-read : readSheet edition1 sheet ≡ got (plantOf t) (8 * length sheet)
+    unfolding edition1
+    sheet-read =
+        let (ok, allowed) = tables-accepted edition1 t small agree fit in
+        written edition1 (plantOf t) (omega arith) (omega arith) ok allowed
+
+    tables-read : readTables sheet ≡ answered t
+    unfolding readTables
+    tables-read = rw (readTables, sheet-read, tables-back t agree)
+
+    sheet-promises : (buffer : List ℕ) → Written t (length sheet) (filled sheet buffer)
+    sheet-promises buffer = record {
+      reads = rw (filled-take sheet buffer) tables-read;
+      bits = sheet-length edition1 (plantOf t);
+      most = no-longer edition1 sheet (plantOf t) (8 * length sheet) sheet-read;
+    }
+
+-- what the writing call promises: reading what was written returns the tables
+pub write-promises : (t : Tables) (buffer : List ℕ) → Below (2 ^ 16) (t .costs) → WritePromises t (writeCall t buffer .answer) (writeCall t buffer .after)
+unfolding writeCall writeSheet
+write-promises t buffer small = go (firstGiven (lengthGrounds t)) (firstGiven (tableGrounds edition1 t)) refl refl
+  where
+    Kept : Wrote → Type 0
+    Kept w = WritePromises t (w .answer) (w .after)
+
+    room : Written t (length (sheetOf edition1 (plantOf t))) (filled (sheetOf edition1 (plantOf t)) buffer) → (r : Option ℕ) → firstGiven (roomGrounds (sheetOf edition1 (plantOf t)) buffer) ≡ r → Kept (writeSheet (sheetOf edition1 (plantOf t)) buffer)
+    room h (some n) g = rw (writeSheet, g) tt
+    room h none g = rw (writeSheet, g) h
+
+    go : (l r : Option ℕ) → firstGiven (lengthGrounds t) ≡ l → firstGiven (tableGrounds edition1 t) ≡ r → Kept (writeCall t buffer)
+    go (some n) r e f = rw (writeCall, e) tt
+    go none (some n) e f = rw (writeCall, e, f) tt
+    go none none e f =
+        let agree : lengthsAgree t ≡ true = none-agree t e in
+        rw (call-writes t agree f buffer) (room (sheet-promises t agree f small buffer) (firstGiven (roomGrounds (sheetOf edition1 (plantOf t)) buffer)) refl)
+
+-- ---- what is read
+
+module _ (rewritten : (sheet : List ℕ) (p : Plant) (end : ℕ) → Below 256 sheet → readSheet edition1 sheet ≡ got p end → sheetOf edition1 p ≡ sheet) where
+  -- the tables that were read are within the rules, and their sheet is the one that was read
+  pub read-writes : (sheet : List ℕ) (p : Plant) (end : ℕ) → Below 256 sheet → readSheet edition1 sheet ≡ got p end → (buffer : List ℕ) → writeCall (tablesOf p) buffer ≡ writeSheet sheet buffer
+  read-writes sheet p end b h buffer =
+      let (ok, allowed, ends) = accepted-any edition1 sheet p end h in
+      let (agree, fit) = accepted-tables edition1 p ok allowed in
+      rw (call-writes (tablesOf p) agree fit buffer, plant-back p, rewritten sheet p end b h)
+
+  -- what the reading call promises: writing the tables that it filled returns the sheet's bytes
+  pub read-promises : (sheet : List ℕ) (lent : Tables) → Below 256 sheet → ReadPromises sheet (readTables sheet) (tablesAfter lent (readTables sheet))
+  unfolding readTables
+  read-promises sheet lent b = go (readSheet edition1 sheet) refl
+    where
+      go : (r : Read Plant) → readSheet edition1 sheet ≡ r → ReadPromises sheet (readTables sheet) (tablesAfter lent (readTables sheet))
+      go (Read.refused n) e = rw (readTables, e) tt
+      go (got p end) e = rw (readTables, e) record { writes = λ buffer. rw (front-back (tablesOf p) lent (tables-agree p)) (read-writes sheet p end b e buffer) }
