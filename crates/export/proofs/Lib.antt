@@ -2,3 +2,4 @@ pub mod Listing
 pub mod Testing
 pub mod Reducing
 pub mod TwoExports
+pub mod TwoTables

@@ -3,15 +3,15 @@ use mathlib.Core.Path.{_≡_, refl}
 use mathlib.Core.Bool.{true, not}
 use mathlib.Core.Option.{Option, none, some}
 use mathlib.Core.List.{List}
-use Prim.Native.Nat.{ℕ, _*_, _^_}
+use Prim.Native.Nat.{ℕ, _*_, _^_, _≤_}
 use native.Mathlib.Omega.{arith}
 use lib.ListN.{length}
-use borrow.Author.Tests.{not-false}
+use borrow.Author.Tests.{not-false, le-ltb}
 use Rattle.model.specs.Lists.{filled}
 use Rattle.model.specs.Sheet.{Plant, Read, got, edition1, readSheet}
-use Rattle.model.specs.Calls.{firstGiven, answered}
+use Rattle.model.specs.Calls.{byAuthor, firstGiven, refused, answered}
 use Rattle.model.specs.Tables.{Tables, plantOf, tablesOf, sheetOf}
-use Rattle.model.specs.TableCalls.{Wrote, lengthsAgree, lengthGrounds, tableGrounds, roomGrounds, writeSheet, writeCall, readTables, tablesAfter}
+use Rattle.model.specs.TableCalls.{Wrote, wrote, lengthsAgree, lengthGrounds, tableGrounds, roomGrounds, writeSheet, writeCall, readTables, tablesAfter}
 use Rattle.theory.specs.Digits.{Below}
 use Rattle.theory.specs.WriteRead.{Written, WritePromises, ReadPromises}
 use Rattle.theory.proofs.Filled.{filled-take}
@@ -95,3 +95,22 @@ module _ (rewritten : (sheet : List ℕ) (p : Plant) (end : ℕ) → Below 256 s
       go : (r : Read Plant) → readSheet edition1 sheet ≡ r → ReadPromises sheet (readTables sheet) (tablesAfter lent (readTables sheet))
       go (Read.refused n) e = rw (readTables, e) tt
       go (got p end) e = rw (readTables, e) record { writes = λ buffer. rw (front-back (tablesOf p) lent (tables-agree p)) (read-writes sheet p end b e buffer) }
+
+-- ---- for statements about two calls
+
+-- tables that were read agree with their numbers
+pub read-agree : (sheet : List ℕ) (t : Tables) → readTables sheet ≡ answered t → lengthsAgree t ≡ true
+unfolding readTables
+read-agree sheet t h = go (readSheet edition1 sheet) refl
+  where
+    go : (r : Read Plant) → readSheet edition1 sheet ≡ r → lengthsAgree t ≡ true
+    go (Read.refused n) e = absurd (let f : refused (byAuthor n) ≡ answered t = rw (readTables, e) at h in let z : _≡_ {A = ℕ} 0 1 = cc in omega arith)
+    go (got p end) e =
+        let f : answered (tablesOf p) ≡ answered t = rw (readTables, e) at h in
+        let g : tablesOf p ≡ t = cc in
+        rw (← g) (tables-agree p)
+
+-- a sheet is written where there is room for it
+pub room-writes : (sheet buffer : List ℕ) → length sheet ≤ length buffer → writeSheet sheet buffer ≡ wrote sheet buffer
+unfolding writeSheet roomGrounds firstGiven
+room-writes sheet buffer h = rw (writeSheet, roomGrounds, firstGiven, le-ltb (length buffer) (length sheet) h)
