@@ -25,6 +25,7 @@ pub mod Queue
 pub mod Reduction
 pub mod ReductionSteps
 pub mod ReductionTrials
+pub mod Rewritten
 pub mod Run
 pub mod Search
 pub mod Sheet
