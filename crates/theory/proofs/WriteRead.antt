@@ -22,6 +22,10 @@ use Rattle.theory.proofs.Written.{written, sheet-length}
 
 -- ---- what is written
 
+-- the sheet of the plant that tables hold
+abbrev tableSheet : Tables → List ℕ
+tableSheet t = sheetOf edition1 (plantOf t)
+
 -- the lengths agree with the numbers exactly when no ground is given by them
 none-agree : (t : Tables) → firstGiven (lengthGrounds t) ≡ none → lengthsAgree t ≡ true
 unfolding lengthGrounds
@@ -38,24 +42,21 @@ module _ (t : Tables) (agree : lengthsAgree t ≡ true) (fit : firstGiven (table
   call-writes buffer = rw (writeCall, agree-none t agree, fit)
 
   module _ (small : Below (2 ^ 16) (t .costs)) where
-    abbrev sheet : List ℕ
-    sheet = sheetOf edition1 (plantOf t)
-
-    sheet-read : readSheet edition1 sheet ≡ got (plantOf t) (8 * length sheet)
+    sheet-read : readSheet edition1 (tableSheet t) ≡ got (plantOf t) (8 * length (tableSheet t))
     unfolding edition1
     sheet-read =
         let (ok, allowed) = tables-accepted edition1 t small agree fit in
         written edition1 (plantOf t) (omega arith) (omega arith) ok allowed
 
-    tables-read : readTables sheet ≡ answered t
+    tables-read : readTables (tableSheet t) ≡ answered t
     unfolding readTables
     tables-read = rw (readTables, sheet-read, tables-back t agree)
 
-    sheet-promises : (buffer : List ℕ) → Written t (length sheet) (filled sheet buffer)
+    sheet-promises : (buffer : List ℕ) → Written t (length (tableSheet t)) (filled (tableSheet t) buffer)
     sheet-promises buffer = record {
-      reads = rw (filled-take sheet buffer) tables-read;
+      reads = rw (filled-take (tableSheet t) buffer) tables-read;
       bits = sheet-length edition1 (plantOf t);
-      most = no-longer edition1 sheet (plantOf t) (8 * length sheet) sheet-read;
+      most = no-longer edition1 (tableSheet t) (plantOf t) (8 * length (tableSheet t)) sheet-read;
     }
 
 -- what the writing call promises: reading what was written returns the tables
@@ -66,7 +67,7 @@ write-promises t buffer small = go (firstGiven (lengthGrounds t)) (firstGiven (t
     Kept : Wrote → Type 0
     Kept w = WritePromises t (w .answer) (w .after)
 
-    room : Written t (length (sheetOf edition1 (plantOf t))) (filled (sheetOf edition1 (plantOf t)) buffer) → (r : Option ℕ) → firstGiven (roomGrounds (sheetOf edition1 (plantOf t)) buffer) ≡ r → Kept (writeSheet (sheetOf edition1 (plantOf t)) buffer)
+    room : Written t (length (tableSheet t)) (filled (tableSheet t) buffer) → (r : Option ℕ) → firstGiven (roomGrounds (tableSheet t) buffer) ≡ r → Kept (writeSheet (tableSheet t) buffer)
     room h (some n) g = rw (writeSheet, g) tt
     room h none g = rw (writeSheet, g) h
 
@@ -75,7 +76,7 @@ write-promises t buffer small = go (firstGiven (lengthGrounds t)) (firstGiven (t
     go none (some n) e f = rw (writeCall, e, f) tt
     go none none e f =
         let agree : lengthsAgree t ≡ true = none-agree t e in
-        rw (call-writes t agree f buffer) (room (sheet-promises t agree f small buffer) (firstGiven (roomGrounds (sheetOf edition1 (plantOf t)) buffer)) refl)
+        rw (call-writes t agree f buffer) (room (sheet-promises t agree f small buffer) (firstGiven (roomGrounds (tableSheet t) buffer)) refl)
 
 -- ---- what is read
 
