@@ -195,3 +195,7 @@ module _ (sheet : List ℕ) where
 pub rewritten : (e : Edition) (sheet : List ℕ) (p : Plant) (end : ℕ) → Below 256 sheet → readSheet e sheet ≡ got p end → sheetOf e p ≡ sheet
 unfolding sheetOf
 rewritten e sheet p end b h = fills-packed sheet (plantWritten e p) b (sheet-fills e sheet p end h)
+
+-- so a sheet has one form: two sheets that say the same are the same
+pub one-form : (e : Edition) (s t : List ℕ) (p : Plant) (m n : ℕ) → Below 256 s → Below 256 t → readSheet e s ≡ got p m → readSheet e t ≡ got p n → s ≡ t
+one-form e s t p m n a b g h = sym (rewritten e s p m a g) ∙ rewritten e t p n b h

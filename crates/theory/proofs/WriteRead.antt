@@ -17,6 +17,7 @@ use Rattle.theory.specs.WriteRead.{Written, WritePromises, ReadPromises}
 use Rattle.theory.proofs.Filled.{filled-take}
 use Rattle.theory.proofs.Longest.{no-longer}
 use Rattle.theory.proofs.PlantTables.{none-given, plant-back, tables-agree, tables-back, tables-accepted, accepted-tables, front-back}
+use Rattle.theory.proofs.Rewritten.{rewritten}
 use Rattle.theory.proofs.Sheet.{accepted-any}
 use Rattle.theory.proofs.Written.{written, sheet-length}
 
@@ -80,22 +81,21 @@ write-promises t buffer small = go (firstGiven (lengthGrounds t)) (firstGiven (t
 
 -- ---- what is read
 
-module _ (rewritten : (sheet : List ℕ) (p : Plant) (end : ℕ) → Below 256 sheet → readSheet edition1 sheet ≡ got p end → sheetOf edition1 p ≡ sheet) where
-  -- the tables that were read are within the rules, and their sheet is the one that was read
-  pub read-writes : (sheet : List ℕ) (p : Plant) (end : ℕ) → Below 256 sheet → readSheet edition1 sheet ≡ got p end → (buffer : List ℕ) → writeCall (tablesOf p) buffer ≡ writeSheet sheet buffer
-  read-writes sheet p end b h buffer =
-      let (ok, allowed, ends) = accepted-any edition1 sheet p end h in
-      let (agree, fit) = accepted-tables edition1 p ok allowed in
-      rw (call-writes (tablesOf p) agree fit buffer, plant-back p, rewritten sheet p end b h)
+-- the tables that were read are within the rules, and their sheet is the one that was read
+pub read-writes : (sheet : List ℕ) (p : Plant) (end : ℕ) → Below 256 sheet → readSheet edition1 sheet ≡ got p end → (buffer : List ℕ) → writeCall (tablesOf p) buffer ≡ writeSheet sheet buffer
+read-writes sheet p end b h buffer =
+    let (ok, allowed, ends) = accepted-any edition1 sheet p end h in
+    let (agree, fit) = accepted-tables edition1 p ok allowed in
+    rw (call-writes (tablesOf p) agree fit buffer, plant-back p, rewritten edition1 sheet p end b h)
 
-  -- what the reading call promises: writing the tables that it filled returns the sheet's bytes
-  pub read-promises : (sheet : List ℕ) (lent : Tables) → Below 256 sheet → ReadPromises sheet (readTables sheet) (tablesAfter lent (readTables sheet))
-  unfolding readTables
-  read-promises sheet lent b = go (readSheet edition1 sheet) refl
-    where
-      go : (r : Read Plant) → readSheet edition1 sheet ≡ r → ReadPromises sheet (readTables sheet) (tablesAfter lent (readTables sheet))
-      go (Read.refused n) e = rw (readTables, e) tt
-      go (got p end) e = rw (readTables, e) record { writes = λ buffer. rw (front-back (tablesOf p) lent (tables-agree p)) (read-writes sheet p end b e buffer) }
+-- what the reading call promises: writing the tables that it filled returns the sheet's bytes
+pub read-promises : (sheet : List ℕ) (lent : Tables) → Below 256 sheet → ReadPromises sheet (readTables sheet) (tablesAfter lent (readTables sheet))
+unfolding readTables
+read-promises sheet lent b = go (readSheet edition1 sheet) refl
+  where
+    go : (r : Read Plant) → readSheet edition1 sheet ≡ r → ReadPromises sheet (readTables sheet) (tablesAfter lent (readTables sheet))
+    go (Read.refused n) e = rw (readTables, e) tt
+    go (got p end) e = rw (readTables, e) record { writes = λ buffer. rw (front-back (tablesOf p) lent (tables-agree p)) (read-writes sheet p end b e buffer) }
 
 -- ---- for statements about two calls
 
