@@ -1,12 +1,14 @@
 // Bit fields of a lent sheet: the unsigned number that stands at a bit place, most significant bit first, or the word that
-// it runs past the end. A field of at most 16 bits is taken from the three bytes around its place. The functions on a slice and
-// a place do the work; the reader further down holds both, and `three` goes through it with plain parameters.
+// it runs past the end; and a number put there. A field of at most 16 bits lies in the three bytes around its place. The
+// functions on a slice and a place do the work; the reader further down holds both, and `three` goes through it with plain
+// parameters.
 ghost use mathlib.Core.Path.{_≡_};
-ghost use Prim.Native.Nat.{_+_, _*_, _/_, _%_, _≤_, _<_, _^_};
+ghost use Prim.Native.Nat.{_+_, _-_, _*_, _/_, _%_, _≤_, _<_, _^_};
 ghost use lib.ListN.{length, getD, drop, set};
+ghost use lib.Seq.{sets};
 ghost use Rattle.model.specs.Digits.{number, digits};
 ghost use Rattle.model.specs.Sheet.{bitsAt, field};
-ghost use Rattle.theory.specs.Puts.{Puts, bitsOf};
+ghost use Rattle.theory.specs.Puts.{written, Puts, bitsOf};
 ghost use Rattle.bits.specs.Field.{fieldOf};
 
 // What stands at a place: a number, or nothing because the field runs past the end.
@@ -124,6 +126,27 @@ fn set_byte(sheet: &mut [u8], i: usize, b: u32)
     }
 }
 
+// Sets the three bytes around a place to those of a word; past the end there are none.
+fn set_word(sheet: &mut [u8], place: usize, all: u32)
+    ensures { λ _. ⌜ now (sheet .exit) ≡ sets (now (sheet .entry)) (place / 8) (digits 256 3 all) ⌝ }
+{
+    let i = place / 8;
+    set_byte(sheet, i, (all >> 16) & 255);
+    set_byte(sheet, i + 1, (all >> 8) & 255);
+    set_byte(sheet, i + 2, all & 255);
+}
+
+// A word of three bytes with a field of w bits replaced, so many bits before its end.
+fn replaced(all: u32, w: usize, behind: usize, v: u32) -> u32
+    requires { ⌜ (w + behind ≤ 24) × (all < 2 ^ 24) × (v < 2 ^ w) ⌝ }
+    ensures { λ r. ⌜ digits 2 24 r ≡ written (24 - (w + behind)) (digits 2 w v) (digits 2 24 all) ⌝ }
+{
+    let above = w + behind;
+    let top = all >> above << above;
+    let low = all & ((1 << behind) - 1);
+    top + (v << behind) + low
+}
+
 // Puts a number as the field of w bits at a place, and answers the place after it. Every other bit stays.
 pub fn put(sheet: &mut [u8], place: usize, w: usize, v: u32) -> usize
     requires { ⌜ (w ≤ 16) × (v < 2 ^ w) × (place + w ≤ 8 * length (now sheet)) × (place + w < 2 ^ 64) ⌝ }
@@ -131,13 +154,7 @@ pub fn put(sheet: &mut [u8], place: usize, w: usize, v: u32) -> usize
 {
     let all = word(sheet, place);
     let behind = after(place, w);
-    let above = behind + w;
-    let top = all >> above << above;
-    let low = all & ((1 << behind) - 1);
-    let new = top + (v << behind) + low;
-    let i = place / 8;
-    set_byte(sheet, i, new >> 16);
-    set_byte(sheet, i + 1, (new >> 8) & 255);
-    set_byte(sheet, i + 2, new & 255);
+    let new = replaced(all, w, behind, v);
+    set_word(sheet, place, new);
     place + w
 }

@@ -74,7 +74,7 @@ word-step sheet n i = elim (decLt i (length sheet)) [
 ]
 
 -- a power of 256 by a power of 2
-bytes-bits : (n : ℕ) → 256 ^ n ≡ 2 ^ (8 * n)
+pub bytes-bits : (n : ℕ) → 256 ^ n ≡ 2 ^ (8 * n)
 bytes-bits zero = refl
 bytes-bits (suc n) =
     let e : 8 * suc n ≡ 8 + 8 * n = omega arith in
