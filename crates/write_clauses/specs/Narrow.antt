@@ -1,5 +1,5 @@
 -- What the fields of a literal hold. Assumes nothing: these are definitions.
-use Prim.Native.Nat.{_≤_, _<_, _^_}
+use Prim.Native.Nat.{_<_, _^_}
 use Rattle.model.specs.Sheet.{Literal}
 
 -- a literal whose numbers fit their fields
