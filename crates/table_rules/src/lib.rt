@@ -3,14 +3,14 @@
 ghost use mathlib.Core.Path.{_≡_};
 ghost use mathlib.Core.Bool.{_&&_};
 ghost use mathlib.Core.List.{List};
-ghost use Prim.Native.Nat.{ℕ, _+_, _≤_, _<_, _^_};
+ghost use Prim.Native.Nat.{ℕ, _*_, _≤_, _^_};
 ghost use lib.Dec.{leb};
 ghost use lib.ListN.{length};
 ghost use Rattle.model.specs.Lists.{allOf, inTurn};
 ghost use Rattle.model.specs.Sheet.{Literal, edition1};
 ghost use Rattle.model.specs.Calls.{firstGiven};
 ghost use Rattle.model.specs.Tables.{total as totalOf, literals};
-ghost use Rattle.model.specs.TableCalls.{lengthsAgree, literalGrounds, tableGrounds};
+ghost use Rattle.model.specs.TableCalls.{lengthsAgree, lengthGrounds, literalGrounds, tableGrounds};
 ghost use Rattle.refusal.specs.Refusal.{groundNumber};
 ghost use Rattle.theory.specs.Tables.{tablesGiven};
 use limits::CLAUSES;
@@ -22,7 +22,7 @@ use readings::STATES;
 // What bytes add up to.
 fn total(bytes: &[u8]) -> usize
     requires { ⌜ length (now bytes) ≤ 2 ^ 33 ⌝ }
-    ensures { λ r. ⌜ r ≡ totalOf (now (bytes .entry)) ⌝ }
+    ensures { λ r. ⌜ (r ≡ totalOf (now (bytes .entry))) × (r ≤ 255 * length (now (bytes .entry))) ⌝ }
 {
     let mut sum = 0;
     let mut i = 0;
@@ -35,7 +35,7 @@ fn total(bytes: &[u8]) -> usize
 
 // Whether the lengths of the tables agree with the numbers, whatever these are. The number of sizes comes first, so that
 // nothing is read beyond a table and no sum wraps.
-pub fn lengths_agree(
+fn lengths_agree(
     d: u32,
     s: u32,
     c: u32,
@@ -47,7 +47,8 @@ pub fn lengths_agree(
     ensures { λ r. ⌜ ((prices bytes : List ℕ) → length prices ≡ costs → length bytes ≡ lits → r ≡ lengthsAgree (tablesGiven d s c (now (sizes .entry)) prices (now (counts .entry)) bytes)) ⌝ }
 {
     let decisions = d as usize;
-    if sizes.len() != decisions + s as usize {
+    let variables = decisions + s as usize;
+    if sizes.len() != variables {
         return false;
     }
     if costs != total(&sizes[..decisions]) {
@@ -59,6 +60,24 @@ pub fn lengths_agree(
     lits == 3 * total(counts)
 }
 
+// The number of the ground on which the host is refused, or 0: the lengths of the tables disagree with the numbers.
+pub fn length_ground(
+    d: u32,
+    s: u32,
+    c: u32,
+    sizes: &[u8],
+    costs: usize,
+    counts: &[u8],
+    lits: usize,
+) -> u32
+    ensures { λ r. ⌜ ((prices bytes : List ℕ) → length prices ≡ costs → length bytes ≡ lits → r ≡ groundNumber (firstGiven (lengthGrounds (tablesGiven d s c (now (sizes .entry)) prices (now (counts .entry)) bytes)))) ⌝ }
+{
+    if !lengths_agree(d, s, c, sizes, costs, counts, lits) {
+        return 16;
+    }
+    0
+}
+
 // Whether each domain size is from 1 to 16.
 fn sized(sizes: &[u8]) -> bool
     ensures { λ r. ⌜ r ≡ allOf (λ n. leb 1 n && leb n 16) (now (sizes .entry)) ⌝ }
@@ -66,7 +85,7 @@ fn sized(sizes: &[u8]) -> bool
     let mut i = 0;
     while i < sizes.len() {
         let n = sizes[i] as usize;
-        if (n < 1) | (n > VALUES) {
+        if !((1 <= n) & (n <= VALUES)) {
             return false;
         }
         i += 1;
@@ -134,10 +153,12 @@ pub fn author_ground(
     if !(sized(sizes) & counted(counts) & signed(lits)) {
         return 17;
     }
-    if (d < 1) | (d as usize > DECISIONS) {
+    let decisions = (1 <= d) & (d as usize <= DECISIONS);
+    let states = s as usize <= STATES;
+    if !decisions {
         return 7;
     }
-    if s as usize > STATES {
+    if !states {
         return 8;
     }
     if c as usize > CLAUSES {

@@ -8,9 +8,7 @@ ghost use Rattle.theory.specs.Tables.{tablesGiven};
 use refusal::Refusal;
 use refusal::Written;
 
-// The refusals of a host: of tables whose lengths disagree with the numbers, and of a buffer that is too short.
-const LENGTHS: u32 = 16;
-
+// The refusal of a buffer that is too short.
 const SHORT: u32 = 18;
 
 // Writes the sheet of the tables to the front of the lent one.
@@ -27,15 +25,17 @@ pub fn write_call(
     ensures equation { λ r. ⌜ writeCall (tablesGiven d s c (now (sizes .entry)) (now (costs .entry)) (now (counts .entry)) (now (lits .entry))) (now (sheet .entry)) ≡ record { answer = writtenOf r; after = now (sheet .exit) } ⌝ }
     ensures right { λ r. ⌜ WritePromises (tablesGiven d s c (now (sizes .entry)) (now (costs .entry)) (now (counts .entry)) (now (lits .entry))) (writtenOf r) (now (sheet .exit)) ⌝ }
 {
-    if !table_rules::lengths_agree(d, s, c, sizes, costs.len(), counts, lits.len()) {
-        return Written::Refused(Refusal::Host(LENGTHS));
+    let lengths = table_rules::length_ground(d, s, c, sizes, costs.len(), counts, lits.len());
+    let rules = table_rules::author_ground(d, s, c, sizes, counts, lits);
+    if lengths != 0 {
+        return Written::Refused(Refusal::Host(lengths));
     }
-    let ground = table_rules::author_ground(d, s, c, sizes, counts, lits);
-    if ground != 0 {
-        return Written::Refused(Refusal::Author(ground));
+    if rules != 0 {
+        return Written::Refused(Refusal::Author(rules));
     }
     let bytes = write_sheet::sheet_bytes(sizes.len(), costs.len(), counts.len(), lits.len());
-    if sheet.len() < bytes {
+    let room = sheet.len();
+    if room < bytes {
         return Written::Refused(Refusal::Host(SHORT));
     }
     write_sheet::write(&mut sheet[..bytes], d, s, c, sizes, costs, counts, lits);

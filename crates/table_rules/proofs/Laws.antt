@@ -1,0 +1,122 @@
+-- Tests of tables from the front, one turn further and at their end, and the first ground that a test finds. Assumes nothing.
+use mathlib.Core.Path.{_≡_, refl, sym, ap}
+use mathlib.Core.Bool.{Bool, true, false, _&&_}
+use mathlib.Core.Option.{none, some}
+use mathlib.Core.List.{List, [], _∷_}
+use Prim.Native.Nat.{ℕ, _+_, _*_, _≤_, _<_}
+use native.Mathlib.Numerals.{add-one}
+use lib.Dec.{leb, eqb}
+use lib.ListN.{length, getD, take, drop, drop-of-length-le}
+use lib.Seq.{drop-cons}
+use borrow.Author.Tests.{lt-ltb, le-ltb, le-leb, lt-leb, eq-eqb, ne-eqb}
+use Rattle.model.specs.Lists.{allOf, inTurn}
+use Rattle.model.specs.Sheet.{Literal, edition1, decisionsAllowed}
+use Rattle.model.specs.Calls.{firstGiven}
+use Rattle.model.specs.Tables.{Tables, total, literals}
+use Rattle.model.specs.TableCalls.{lengthsAgree, fieldsFit, literalGrounds, tableGrounds}
+use Rattle.refusal.specs.Refusal.{groundNumber}
+
+-- ---- bytes from a place on
+
+pub bytes-step : (l : List ℕ) (i : ℕ) → i < length l → drop i l ≡ getD l i 0 ∷ drop (i + 1) l
+bytes-step l i h = rw (add-one, drop-cons l i 0)
+
+pub bytes-end : (l : List ℕ) (i : ℕ) → length l ≤ i → drop i l ≡ []
+bytes-end l i h = drop-of-length-le l {i = i} h
+
+pub total-step : (l : List ℕ) (i : ℕ) → i < length l → total (drop i l) ≡ getD l i 0 + total (drop (i + 1) l)
+unfolding total
+total-step l i h = ap total (bytes-step l i h)
+
+pub total-end : (l : List ℕ) (i : ℕ) → length l ≤ i → total (drop i l) ≡ 0
+unfolding total
+total-end l i h = ap total (bytes-end l i h)
+
+-- ---- a test of each member
+
+module _ {A : Type 0} (test : A → Bool) {xs : List A} where
+  module _ {x : A} {rest : List A} (e : xs ≡ x ∷ rest) where
+    pub all-next : test x ≡ true → allOf test xs ≡ allOf test rest
+    all-next h = rw (e, allOf, h)
+
+    pub all-fails : test x ≡ false → allOf test xs ≡ false
+    all-fails h = rw (e, allOf, h)
+
+  pub all-end : xs ≡ [] → allOf test xs ≡ true
+  all-end e = rw e
+
+-- ---- the grounds of literals
+
+module _ (domains : List ℕ) {ls : List Literal} where
+  module _ {l : Literal} {rest : List Literal} (e : ls ≡ l ∷ rest) where
+    pub absent : length domains ≤ l .variable → firstGiven (inTurn (literalGrounds domains) ls) ≡ some 10
+    unfolding firstGiven literalGrounds
+    absent h = rw (e, literalGrounds, le-ltb (l .variable) (length domains) h)
+
+    module _ (present : l .variable < length domains) where
+      pub outside : getD domains (l .variable) 0 ≤ l .value → firstGiven (inTurn (literalGrounds domains) ls) ≡ some 11
+      unfolding firstGiven literalGrounds
+      outside h = rw (e, literalGrounds, lt-ltb (l .variable) (length domains) present, le-ltb (l .value) (getD domains (l .variable) 0) h)
+
+      pub inside : l .value < getD domains (l .variable) 0 → firstGiven (inTurn (literalGrounds domains) ls) ≡ firstGiven (inTurn (literalGrounds domains) rest)
+      unfolding firstGiven literalGrounds
+      inside h = rw (e, literalGrounds, lt-ltb (l .variable) (length domains) present, lt-ltb (l .value) (getD domains (l .variable) 0) h)
+
+  pub no-literal : ls ≡ [] → firstGiven (inTurn (literalGrounds domains) ls) ≡ none
+  unfolding firstGiven
+  no-literal e = rw e
+
+-- ---- the grounds of tables
+
+module _ (t : Tables) where
+  -- the number of the first
+  abbrev pub first : ℕ
+  first = groundNumber (firstGiven (tableGrounds edition1 t))
+
+  pub fits-as : {a b g : Bool} → a ≡ allOf (λ n. leb 1 n && leb n 16) (t .sizes) → b ≡ allOf (λ n. leb n 15) (t .counts) → g ≡ allOf (λ (l : Literal). leb (l .sign) 1) (literals (t .literals))
+      → (a && b && g) ≡ fieldsFit t
+  unfolding fieldsFit
+  fits-as e f h = rw (e, f, h)
+
+  pub misfit : fieldsFit t ≡ false → 17 ≡ first
+  unfolding firstGiven tableGrounds
+  misfit f = rw (tableGrounds, f)
+
+  module _ (f : fieldsFit t ≡ true) where
+    pub decisions-wrong : (leb 1 (t .decisions) && leb (t .decisions) 16) ≡ false → 7 ≡ first
+    unfolding firstGiven tableGrounds decisionsAllowed edition1
+    decisions-wrong d = rw (tableGrounds, f, d)
+
+    module _ (d : (leb 1 (t .decisions) && leb (t .decisions) 16) ≡ true) where
+      pub states-many : 32 < t .states → 8 ≡ first
+      unfolding firstGiven tableGrounds decisionsAllowed edition1
+      states-many h = rw (tableGrounds, f, d, lt-leb (t .states) 32 h)
+
+      module _ (s : t .states ≤ 32) where
+        pub clauses-many : 512 < t .clauses → 9 ≡ first
+        unfolding firstGiven tableGrounds decisionsAllowed edition1
+        clauses-many h = rw (tableGrounds, f, d, le-leb (t .states) 32 s, lt-leb (t .clauses) 512 h)
+
+        pub literals-left : t .clauses ≤ 512 → groundNumber (firstGiven (inTurn (literalGrounds (t .sizes)) (literals (t .literals)))) ≡ first
+        unfolding firstGiven tableGrounds decisionsAllowed edition1
+        literals-left h = rw (tableGrounds, f, d, le-leb (t .states) 32 s, le-leb (t .clauses) 512 h)
+
+-- ---- the lengths of tables
+
+  pub sizes-disagree : (length (t .sizes) ≡ t .decisions + t .states → ⊥) → false ≡ lengthsAgree t
+  unfolding lengthsAgree
+  sizes-disagree h = rw (lengthsAgree, ne-eqb (length (t .sizes)) (t .decisions + t .states) h)
+
+  module _ (a : length (t .sizes) ≡ t .decisions + t .states) where
+    pub costs-disagree : (length (t .costs) ≡ total (take (t .decisions) (t .sizes)) → ⊥) → false ≡ lengthsAgree t
+    unfolding lengthsAgree
+    costs-disagree h = rw (lengthsAgree, eq-eqb (length (t .sizes)) (t .decisions + t .states) a, ne-eqb (length (t .costs)) (total (take (t .decisions) (t .sizes))) h)
+
+    module _ (b : length (t .costs) ≡ total (take (t .decisions) (t .sizes))) where
+      pub counts-disagree : (length (t .counts) ≡ t .clauses → ⊥) → false ≡ lengthsAgree t
+      unfolding lengthsAgree
+      counts-disagree h = rw (lengthsAgree, eq-eqb (length (t .sizes)) (t .decisions + t .states) a, eq-eqb (length (t .costs)) (total (take (t .decisions) (t .sizes))) b, ne-eqb (length (t .counts)) (t .clauses) h)
+
+      pub literals-agree : length (t .counts) ≡ t .clauses → eqb (length (t .literals)) (3 * total (t .counts)) ≡ lengthsAgree t
+      unfolding lengthsAgree
+      literals-agree h = rw (lengthsAgree, eq-eqb (length (t .sizes)) (t .decisions + t .states) a, eq-eqb (length (t .costs)) (total (take (t .decisions) (t .sizes))) b, eq-eqb (length (t .counts)) (t .clauses) h)
