@@ -13,7 +13,7 @@ use Rattle.model.specs.Lists.{allOf, inTurn}
 use Rattle.model.specs.Sheet.{Literal, edition1, decisionsAllowed}
 use Rattle.model.specs.Calls.{firstGiven}
 use Rattle.model.specs.Tables.{Tables, total, literals}
-use Rattle.model.specs.TableCalls.{lengthsAgree, fieldsFit, literalGrounds, tableGrounds}
+use Rattle.model.specs.TableCalls.{lengthsAgree, fieldsFit, lengthGrounds, literalGrounds, tableGrounds}
 use Rattle.refusal.specs.Refusal.{groundNumber}
 
 -- ---- bytes from a place on
@@ -88,20 +88,20 @@ module _ (t : Tables) where
     decisions-wrong d = rw (tableGrounds, f, d)
 
     module _ (d : (leb 1 (t .decisions) && leb (t .decisions) 16) ≡ true) where
-      pub states-many : 32 < t .states → 8 ≡ first
+      pub states-wrong : leb (t .states) 32 ≡ false → 8 ≡ first
       unfolding firstGiven tableGrounds decisionsAllowed edition1
-      states-many h = rw (tableGrounds, f, d, lt-leb (t .states) 32 h)
+      states-wrong s = rw (tableGrounds, f, d, s)
 
-      module _ (s : t .states ≤ 32) where
-        pub clauses-many : 512 < t .clauses → 9 ≡ first
+      module _ (s : leb (t .states) 32 ≡ true) where
+        pub clauses-wrong : 512 < t .clauses → 9 ≡ first
         unfolding firstGiven tableGrounds decisionsAllowed edition1
-        clauses-many h = rw (tableGrounds, f, d, le-leb (t .states) 32 s, lt-leb (t .clauses) 512 h)
+        clauses-wrong h = rw (tableGrounds, f, d, s, lt-leb (t .clauses) 512 h)
 
         pub literals-left : t .clauses ≤ 512 → groundNumber (firstGiven (inTurn (literalGrounds (t .sizes)) (literals (t .literals)))) ≡ first
         unfolding firstGiven tableGrounds decisionsAllowed edition1
-        literals-left h = rw (tableGrounds, f, d, le-leb (t .states) 32 s, le-leb (t .clauses) 512 h)
+        literals-left h = rw (tableGrounds, f, d, s, le-leb (t .clauses) 512 h)
 
--- ---- the lengths of tables
+  -- ---- the lengths of tables
 
   pub sizes-disagree : (length (t .sizes) ≡ t .decisions + t .states → ⊥) → false ≡ lengthsAgree t
   unfolding lengthsAgree
@@ -120,3 +120,11 @@ module _ (t : Tables) where
       pub literals-agree : length (t .counts) ≡ t .clauses → eqb (length (t .literals)) (3 * total (t .counts)) ≡ lengthsAgree t
       unfolding lengthsAgree
       literals-agree h = rw (lengthsAgree, eq-eqb (length (t .sizes)) (t .decisions + t .states) a, eq-eqb (length (t .costs)) (total (take (t .decisions) (t .sizes))) b, eq-eqb (length (t .counts)) (t .clauses) h)
+
+  pub lengths-wrong : lengthsAgree t ≡ false → 16 ≡ groundNumber (firstGiven (lengthGrounds t))
+  unfolding firstGiven lengthGrounds
+  lengths-wrong e = rw (lengthGrounds, e)
+
+  pub lengths-right : lengthsAgree t ≡ true → 0 ≡ groundNumber (firstGiven (lengthGrounds t))
+  unfolding firstGiven lengthGrounds
+  lengths-right e = rw (lengthGrounds, e)
