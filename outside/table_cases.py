@@ -279,11 +279,11 @@ def mended(tables):
 
 
 def damaged_tables(rng, tables):
-    """Changed in one to three places; now and then so that the lengths agree again."""
+    """Changed in one to three places; often so that the lengths agree again."""
     for _ in range(rng.choice([1, 1, 2, 3])):
         kinds = [other_entry, other_entry, other_entry, other_number, other_length]
         tables = rng.choice(kinds)(rng, tables)
-    return mended(tables) if rng.random() < 0.5 else tables
+    return mended(tables) if rng.random() < 0.7 else tables
 
 
 def any_room(rng, tables):
