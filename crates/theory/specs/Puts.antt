@@ -18,7 +18,3 @@ pub record Puts (place : ℕ) (text before : List ℕ) (next : ℕ) (after : Lis
 -- the bits of bytes, most significant first: a sheet as it is read and written
 abbrev pub bitsOf : List ℕ → List ℕ
 bitsOf bytes = inTurn (digits 2 8) bytes
-
--- a field of w bits was put at a place of the bits
-abbrev pub PutsField : (place w v : ℕ) (before : List ℕ) (next : ℕ) (after : List ℕ) → Type 0
-PutsField place w v before next after = Puts place (digits 2 w v) (bitsOf before) next (bitsOf after)
