@@ -8,13 +8,13 @@ use judge::Ending;
 use listing::Answer;
 use listing::Counts;
 use listing_call::list_with;
-use read_call::COST_ENTRIES;
-use read_call::COUNT_ENTRIES;
-use read_call::LITERAL_BYTES;
 use read_call::Opened;
-use read_call::SIZE_ENTRIES;
-use read_call::TABLE_NUMBERS;
 use read_call::read_call;
+use readings::COST_ENTRIES;
+use readings::COUNT_ENTRIES;
+use readings::LITERAL_BYTES;
+use readings::NUMBERS;
+use readings::SIZE_ENTRIES;
 use refusal::Written;
 use write_call::write_call;
 ghost use mathlib.Core.Path.{_≡_};
@@ -225,7 +225,7 @@ pub extern "C" fn leading_read(
     costs: &mut [u16; COST_ENTRIES],
     counts: &mut [u8; COUNT_ENTRIES],
     literals: &mut [u8; LITERAL_BYTES],
-    numbers: &mut [u32; TABLE_NUMBERS],
+    numbers: &mut [u32; NUMBERS],
 ) -> u32
     ensures equation { λ r. ⌜ readExport (now (sheet .entry)) (tablesLent (now (sizes .entry)) (now (costs .entry)) (now (counts .entry)) (now (literals .entry)) (now (numbers .entry)))
         ≡ (r, tablesLent (now (sizes .exit)) (now (costs .exit)) (now (counts .exit)) (now (literals .exit)) (now (numbers .exit))) ⌝ }

@@ -31,6 +31,9 @@ pub const CLAUSE_BYTES: usize = LITERALS * 3;
 // Bytes of the table of literals.
 pub const LITERAL_BYTES: usize = COUNT_ENTRIES * CLAUSE_BYTES;
 
+// Words for the numbers of decision variables, of state variables and of clauses.
+pub const NUMBERS: usize = 3;
+
 // A part that is in a table: the place after it, or a refusal.
 pub enum Step {
     Next(usize),
