@@ -9,15 +9,20 @@ ghost use Rattle.model.specs.Tables.{total, costRows, decisionWritten, stateWri
 ghost use Rattle.theory.specs.Plant.{Sized};
 ghost use Rattle.theory.specs.Puts.{Puts, bitsOf};
 
+// Bits of a domain size less 1, and of a cost.
+const SIZE_BITS: usize = 4;
+
+const COST_BITS: usize = 16;
+
 // Puts one decision variable: its domain size less 1, then its costs.
 fn row(sheet: &mut [u8], place: usize, costs: &[u16]) -> usize
     requires { ⌜ Sized (length (now costs)) × (place + length (decisionWritten edition1 (now costs)) ≤ 8 * length (now sheet)) × (8 * length (now sheet) < 2 ^ 64) ⌝ }
     ensures { λ r. ⌜ Puts place (decisionWritten edition1 (now (costs .entry))) (bitsOf (now (sheet .entry))) r (bitsOf (now (sheet .exit))) ⌝ }
 {
-    let mut at = bits::put(sheet, place, 4, costs.len() as u32 - 1);
+    let mut at = bits::put(sheet, place, SIZE_BITS, costs.len() as u32 - 1);
     let mut i = 0;
     while i < costs.len() {
-        at = bits::put(sheet, at, 16, costs[i] as u32);
+        at = bits::put(sheet, at, COST_BITS, costs[i] as u32);
         i += 1;
     }
     at
@@ -32,9 +37,10 @@ fn decisions(sheet: &mut [u8], place: usize, sizes: &[u8], costs: &[u16]) -> usi
     let mut from = 0;
     let mut i = 0;
     while i < sizes.len() {
-        let end = from + sizes[i] as usize;
+        let n = sizes[i] as usize;
+        let end = from + n;
         at = row(sheet, at, &costs[from..end]);
-        from = end;
+        from += n;
         i += 1;
     }
     at
@@ -48,7 +54,7 @@ fn states(sheet: &mut [u8], place: usize, sizes: &[u8]) -> usize
     let mut at = place;
     let mut i = 0;
     while i < sizes.len() {
-        at = bits::put(sheet, at, 4, sizes[i] as u32 - 1);
+        at = bits::put(sheet, at, SIZE_BITS, sizes[i] as u32 - 1);
         i += 1;
     }
     at
