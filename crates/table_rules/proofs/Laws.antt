@@ -1,6 +1,6 @@
 -- Tests of tables from the front, one turn further and at their end, and the first ground that a test finds. Assumes nothing.
-use mathlib.Core.Path.{_≡_, refl, sym, ap}
-use mathlib.Core.Bool.{Bool, true, false, _&&_}
+use mathlib.Core.Path.{_≡_, ap}
+use mathlib.Core.Bool.{Bool, true, false, not, _&&_}
 use mathlib.Core.Option.{none, some}
 use mathlib.Core.List.{List, [], _∷_}
 use Prim.Native.Nat.{ℕ, _+_, _*_, _≤_, _<_}
@@ -66,43 +66,45 @@ module _ (domains : List ℕ) {ls : List Literal} where
   unfolding firstGiven
   no-literal e = rw e
 
--- ---- the grounds of tables
+-- ---- the author's grounds
 
 module _ (t : Tables) where
+  pub fits-as : {a b c : Bool} → a ≡ allOf (λ n. leb 1 n && leb n 16) (t .sizes) → b ≡ allOf (λ n. leb n 15) (t .counts) → c ≡ allOf (λ (l : Literal). leb (l .sign) 1) (literals (t .literals))
+      → (a && b && c) ≡ fieldsFit t
+  unfolding fieldsFit
+  fits-as e f g = rw (e, f, g)
+
   -- the number of the first
-  abbrev pub first : ℕ
+  abbrev first : ℕ
   first = groundNumber (firstGiven (tableGrounds edition1 t))
 
-  pub fits-as : {a b g : Bool} → a ≡ allOf (λ n. leb 1 n && leb n 16) (t .sizes) → b ≡ allOf (λ n. leb n 15) (t .counts) → g ≡ allOf (λ (l : Literal). leb (l .sign) 1) (literals (t .literals))
-      → (a && b && g) ≡ fieldsFit t
-  unfolding fieldsFit
-  fits-as e f h = rw (e, f, h)
+  module _ {f : Bool} (e : f ≡ fieldsFit t) where
+    pub fields-wrong : not f ≡ true → 17 ≡ first
+    unfolding firstGiven tableGrounds
+    fields-wrong p = rw (tableGrounds, ← e, p)
 
-  pub misfit : fieldsFit t ≡ false → 17 ≡ first
-  unfolding firstGiven tableGrounds
-  misfit f = rw (tableGrounds, f)
-
-  module _ (f : fieldsFit t ≡ true) where
-    pub decisions-wrong : (leb 1 (t .decisions) && leb (t .decisions) 16) ≡ false → 7 ≡ first
-    unfolding firstGiven tableGrounds decisionsAllowed edition1
-    decisions-wrong d = rw (tableGrounds, f, d)
-
-    module _ (d : (leb 1 (t .decisions) && leb (t .decisions) 16) ≡ true) where
-      pub states-wrong : leb (t .states) 32 ≡ false → 8 ≡ first
+    module _ (p : not f ≡ false) where
+      pub decisions-wrong : not (leb 1 (t .decisions) && leb (t .decisions) 16) ≡ true → 7 ≡ first
       unfolding firstGiven tableGrounds decisionsAllowed edition1
-      states-wrong s = rw (tableGrounds, f, d, s)
+      decisions-wrong q = rw (tableGrounds, ← e, p, q)
 
-      module _ (s : leb (t .states) 32 ≡ true) where
-        pub clauses-wrong : 512 < t .clauses → 9 ≡ first
+      module _ (q : not (leb 1 (t .decisions) && leb (t .decisions) 16) ≡ false) where
+        pub states-wrong : not (leb (t .states) 32) ≡ true → 8 ≡ first
         unfolding firstGiven tableGrounds decisionsAllowed edition1
-        clauses-wrong h = rw (tableGrounds, f, d, s, lt-leb (t .clauses) 512 h)
+        states-wrong r = rw (tableGrounds, ← e, p, q, r)
 
-        pub literals-left : t .clauses ≤ 512 → groundNumber (firstGiven (inTurn (literalGrounds (t .sizes)) (literals (t .literals)))) ≡ first
-        unfolding firstGiven tableGrounds decisionsAllowed edition1
-        literals-left h = rw (tableGrounds, f, d, s, le-leb (t .clauses) 512 h)
+        module _ (r : not (leb (t .states) 32) ≡ false) where
+          pub clauses-wrong : 512 < t .clauses → 9 ≡ first
+          unfolding firstGiven tableGrounds decisionsAllowed edition1
+          clauses-wrong h = rw (tableGrounds, ← e, p, q, r, lt-leb (t .clauses) 512 h)
 
-  -- ---- the lengths of tables
+          pub literals-left : t .clauses ≤ 512 → groundNumber (firstGiven (inTurn (literalGrounds (t .sizes)) (literals (t .literals)))) ≡ first
+          unfolding firstGiven tableGrounds decisionsAllowed edition1
+          literals-left h = rw (tableGrounds, ← e, p, q, r, le-leb (t .clauses) 512 h)
 
+-- ---- the lengths
+
+module _ (t : Tables) where
   pub sizes-disagree : (length (t .sizes) ≡ t .decisions + t .states → ⊥) → false ≡ lengthsAgree t
   unfolding lengthsAgree
   sizes-disagree h = rw (lengthsAgree, ne-eqb (length (t .sizes)) (t .decisions + t .states) h)
@@ -121,10 +123,11 @@ module _ (t : Tables) where
       unfolding lengthsAgree
       literals-agree h = rw (lengthsAgree, eq-eqb (length (t .sizes)) (t .decisions + t .states) a, eq-eqb (length (t .costs)) (total (take (t .decisions) (t .sizes))) b, eq-eqb (length (t .counts)) (t .clauses) h)
 
-  pub lengths-wrong : lengthsAgree t ≡ false → 16 ≡ groundNumber (firstGiven (lengthGrounds t))
-  unfolding firstGiven lengthGrounds
-  lengths-wrong e = rw (lengthGrounds, e)
+  module _ {r : Bool} (e : r ≡ lengthsAgree t) where
+    pub lengths-wrong : not r ≡ true → 16 ≡ groundNumber (firstGiven (lengthGrounds t))
+    unfolding firstGiven lengthGrounds
+    lengths-wrong p = rw (lengthGrounds, ← e, p)
 
-  pub lengths-right : lengthsAgree t ≡ true → 0 ≡ groundNumber (firstGiven (lengthGrounds t))
-  unfolding firstGiven lengthGrounds
-  lengths-right e = rw (lengthGrounds, e)
+    pub lengths-right : not r ≡ false → 0 ≡ groundNumber (firstGiven (lengthGrounds t))
+    unfolding firstGiven lengthGrounds
+    lengths-right p = rw (lengthGrounds, ← e, p)

@@ -140,14 +140,7 @@ fn literal_ground(domains: &[u8], lits: &[u8]) -> u32
 }
 
 // The number of the first ground on which the author of tables is refused, or 0.
-pub fn author_ground(
-    d: u32,
-    s: u32,
-    c: u32,
-    sizes: &[u8],
-    counts: &[u8],
-    lits: &[u8],
-) -> u32
+pub fn author_ground(d: u32, s: u32, c: u32, sizes: &[u8], counts: &[u8], lits: &[u8]) -> u32
     ensures { λ r. ⌜ ((costs : List ℕ) → r ≡ groundNumber (firstGiven (tableGrounds edition1 (tablesGiven d s c (now (sizes .entry)) costs (now (counts .entry)) (now (lits .entry)))))) ⌝ }
 {
     if !(sized(sizes) & counted(counts) & signed(lits)) {

@@ -1,6 +1,6 @@
 -- `table_rules::counted` meets its contract: the whole is the test of what is left. Assumes nothing.
 use mathlib.Core.Path.{_≡_, refl, sym, _∙_}
-use Prim.Native.Nat.{_+_, _-_, _≤_}
+use Prim.Native.Nat.{_-_, _≤_}
 use native.Mathlib.Omega.{arith}
 use lib.Dec.{leb}
 use lib.ListN.{length, drop}
@@ -26,7 +26,7 @@ cast-if1 : tie.Need-cast-if1 Inv-loop μ-loop
 cast-if1 c = omega (arith, c .shared-slice-known .given (c .before .before .loop .i))
 
 returns : tie.Need-returns Inv-loop μ-loop
-returns c = 
+returns c =
     let loop = c .before .before .before .loop in
     let counts = c .before .before .before .before .args .counts .now in
     sym (loop .inv .1 ∙ all-fails _ (bytes-step counts (loop .i) (omega arith)) (lt-leb _ _ (c .if1 .taken)))
@@ -38,7 +38,7 @@ loop-less : tie.Need-loop-less Inv-loop μ-loop
 loop-less c = omega arith
 
 loop-again : tie.Need-loop-again Inv-loop μ-loop
-loop-again c = 
+loop-again c =
     let loop = c .before .before .before .loop in
     let counts = c .before .before .before .before .args .counts .now in
     (omega arith, loop .inv .1 ∙ all-next _ (bytes-step counts (loop .i) (omega arith)) (le-leb _ _ (c .if1 .left)))

@@ -1,6 +1,6 @@
 -- `table_rules::literal_ground` meets its contract: the first ground of all literals is that of those that are left. Assumes nothing.
 use mathlib.Core.Path.{_≡_, refl, sym, ap, _∙_}
-use Prim.Native.Nat.{_+_, _-_, _≤_}
+use Prim.Native.Nat.{_-_, _≤_}
 use native.Mathlib.Omega.{arith}
 use lib.ListN.{length, drop}
 use Rattle.model.specs.Lists.{inTurn}
@@ -32,7 +32,7 @@ cast-v : tie.Need-cast-v Inv-loop μ-loop
 cast-v c = omega (arith, c .shared-slice-known .given (c .before .before .loop .i))
 
 returns : tie.Need-returns Inv-loop μ-loop
-returns c = 
+returns c =
     let loop = c .before .before .before .loop in
     let s = c .before .before .before .before .args in
     ap groundNumber (sym (loop .inv .1 ∙ absent (s .domains .now) (literals-step (s .lits .now) (loop .i) (omega arith)) (c .if1 .taken)))
@@ -47,7 +47,7 @@ shared-slice-read-if2-2 : tie.Need-shared-slice-read-if2-2 Inv-loop μ-loop
 shared-slice-read-if2-2 c = omega arith
 
 returns-2 : tie.Need-returns-2 Inv-loop μ-loop
-returns-2 c = 
+returns-2 c =
     let loop = c .before .before .before .before .before .before .loop in
     let s = c .before .before .before .before .before .before .before .args in
     ap groundNumber (sym (loop .inv .1 ∙ outside (s .domains .now) (literals-step (s .lits .now) (loop .i) (omega arith)) (c .before .before .before .if1 .left) (c .if2 .taken)))
@@ -59,7 +59,7 @@ loop-less : tie.Need-loop-less Inv-loop μ-loop
 loop-less c = omega arith
 
 loop-again : tie.Need-loop-again Inv-loop μ-loop
-loop-again c = 
+loop-again c =
     let loop = c .before .before .before .before .before .before .loop in
     let s = c .before .before .before .before .before .before .before .args in
     (omega arith, loop .inv .1 ∙ inside (s .domains .now) (literals-step (s .lits .now) (loop .i) (omega arith)) (c .before .before .before .if1 .left) (c .if2 .left))

@@ -1,6 +1,6 @@
 -- `table_rules::signed` meets its contract: the whole is the test of what is left. Assumes nothing.
 use mathlib.Core.Path.{_≡_, refl, sym, _∙_}
-use Prim.Native.Nat.{_+_, _-_, _≤_}
+use Prim.Native.Nat.{_-_, _≤_}
 use native.Mathlib.Omega.{arith}
 use lib.Dec.{leb}
 use lib.ListN.{length, drop}
@@ -32,7 +32,7 @@ shared-slice-read-if1 : tie.Need-shared-slice-read-if1 Inv-loop μ-loop
 shared-slice-read-if1 c = omega arith
 
 returns : tie.Need-returns Inv-loop μ-loop
-returns c = 
+returns c =
     let loop = c .before .before .before .loop in
     let lits = c .before .before .before .before .args .lits .now in
     sym (loop .inv .1 ∙ all-fails _ (literals-step lits (loop .i) (omega arith)) (lt-leb _ _ (c .if1 .taken)))
@@ -44,7 +44,7 @@ loop-less : tie.Need-loop-less Inv-loop μ-loop
 loop-less c = omega arith
 
 loop-again : tie.Need-loop-again Inv-loop μ-loop
-loop-again c = 
+loop-again c =
     let loop = c .before .before .before .loop in
     let lits = c .before .before .before .before .args .lits .now in
     (omega arith, loop .inv .1 ∙ all-next _ (literals-step lits (loop .i) (omega arith)) (le-leb _ _ (c .if1 .left)))

@@ -1,7 +1,7 @@
 -- `table_rules::sized` meets its contract: the whole is the test of what is left. Assumes nothing.
 use mathlib.Core.Path.{_≡_, refl, sym, _∙_}
 use mathlib.Core.Bool.{_&&_}
-use Prim.Native.Nat.{_+_, _-_, _≤_}
+use Prim.Native.Nat.{_-_, _≤_}
 use native.Mathlib.Omega.{arith}
 use lib.Dec.{leb}
 use lib.ListN.{length, drop}
@@ -27,7 +27,7 @@ cast-n : tie.Need-cast-n Inv-loop μ-loop
 cast-n c = omega (arith, c .shared-slice-known .given (c .before .before .loop .i))
 
 returns : tie.Need-returns Inv-loop μ-loop
-returns c = 
+returns c =
     let loop = c .before .before .before .loop in
     let sizes = c .before .before .before .before .args .sizes .now in
     sym (loop .inv .1 ∙ all-fails _ (bytes-step sizes (loop .i) (omega arith)) (not-true _ (c .if1 .taken)))
@@ -39,7 +39,7 @@ loop-less : tie.Need-loop-less Inv-loop μ-loop
 loop-less c = omega arith
 
 loop-again : tie.Need-loop-again Inv-loop μ-loop
-loop-again c = 
+loop-again c =
     let loop = c .before .before .before .loop in
     let sizes = c .before .before .before .before .args .sizes .now in
     (omega arith, loop .inv .1 ∙ all-next _ (bytes-step sizes (loop .i) (omega arith)) (not-false _ (c .if1 .left)))
