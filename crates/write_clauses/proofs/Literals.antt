@@ -1,7 +1,7 @@
 -- A literal's field, and the literals of a clause put one after another. Assumes nothing.
-use mathlib.Core.Path.{_≡_, refl, ap, _∙_}
-use mathlib.Core.List.{List, [], _∷_, _++_}
-use Prim.Native.Nat.{ℕ, _+_, _*_, _/_, _^_, _<_, _≤_}
+use mathlib.Core.Path.{_≡_, ap, _∙_}
+use mathlib.Core.List.{List, _++_}
+use Prim.Native.Nat.{ℕ, _+_, _*_, _^_, _<_, _≤_}
 use native.Mathlib.Omega.{arith}
 use lib.ListN.{length, drop, length-append}
 use Rattle.model.specs.Digits.{digits}
@@ -20,14 +20,6 @@ pub literal-field : (v s x : ℕ) → s < 2 ^ 1 → x < 2 ^ 4 → digits 2 liter
 literal-field v s x p q =
     let e : v * 2 ^ 5 + s * 2 ^ 4 + x ≡ v * 2 ^ 5 + (s * 2 ^ 4 + x) = omega arith in
     rw e (digits-join 2 6 5 v (s * 2 ^ 4 + x) (omega arith) (omega arith) ∙ ap (λ (ds : List ℕ). digits 2 6 v ++ ds) (digits-join 2 1 4 s x (omega arith) q))
-
--- how many literals bytes hold
-pub literals-length : (l : List ℕ) → length (literals l) ≡ length l / 3
-unfolding literals
-literals-length [] = refl
-literals-length (v ∷ []) = refl
-literals-length (v ∷ s ∷ []) = refl
-literals-length (v ∷ s ∷ x ∷ l) = omega (arith, literals-length l)
 
 -- how many bits a literal has
 literal-length : (l : Literal) → length (literalWritten l) ≡ literalBits

@@ -7,8 +7,9 @@ use Rattle.model.specs.Tables.{literals}
 use Rattle.theory.specs.Puts.{bitsOf}
 use Rattle.theory.proofs.Bits.{bits-length}
 use Rattle.theory.proofs.Digits.{digits-length}
+use Rattle.theory.proofs.PlantTables.{literals-length}
 use Rattle.theory.proofs.Puts.{puts-then}
-use Rattle.write_clauses.proofs.Literals.{LiteralsTo, literals-length, clause-length, literals-first, literal-narrow, literal-room, literals-next, literals-put}
+use Rattle.write_clauses.proofs.Literals.{LiteralsTo, clause-length, literals-first, literal-narrow, literal-room, literals-next, literals-put}
 use Rattle.write_clauses.proofs.clause.Statement.{statement}
 use Rattle.write_clauses.proofs.clause.Tie as tie
 
