@@ -1,19 +1,21 @@
--- Laws of the loops that put the variables: one field for each number of a table, and the rows of costs as the sizes part them. Assumes nothing.
+-- Laws of the loops that put the variables: one field for each number of a table, the rows of costs as the sizes part them, and the sizes behind them. Assumes nothing.
 use mathlib.Core.Path.{_≡_, refl, ap, _∙_}
 use mathlib.Core.List.{List, _∷_, _++_}
 use Prim.Native.Nat.{ℕ, _+_, _-_, _*_, _≤_, _<_}
 use native.Mathlib.Omega.{arith}
+use borrow.Rule.Slice.PartAt.{part-to-end}
 use native.Mathlib.Numerals.{add-one}
-use lib.ListN.{length, getD, take, drop, length-append, length-drop, drop-of-length-le}
+use lib.ListN.{length, getD, take, drop, length-append, length-drop, take-append-drop, drop-of-length-le}
 use lib.Seq.{drop-cons, drop-drop, length-take-le}
 use Rattle.model.specs.Digits.{digits}
 use Rattle.model.specs.Lists.{All, inTurn}
 use Rattle.model.specs.Sheet.{edition1}
-use Rattle.model.specs.Tables.{total, costRows, decisionWritten}
+use Rattle.model.specs.Tables.{total, costRows, decisionWritten, stateWritten}
 use Rattle.theory.specs.Plant.{Sized}
 use Rattle.theory.specs.Puts.{Puts, bitsOf}
+use Rattle.theory.proofs.Lists.{all-left, all-right}
 use Rattle.theory.proofs.Digits.{digits-length}
-use Rattle.theory.proofs.Puts.{PutsBefore, part-start, part-room, part-step, part-end, in-turn-next, in-turn-past}
+use Rattle.theory.proofs.Puts.{puts-then, PutsBefore, part-start, part-room, part-step, part-end, in-turn-next, in-turn-past}
 use Rattle.theory.proofs.Bits.{bits-length}
 
 -- ---- one field for each number
@@ -126,3 +128,26 @@ module _ {place : ℕ} {sizes costs sheet : List ℕ} where
   pub rows-end : {i from next : ℕ} {out : List ℕ} → RowsTo place sizes costs sheet i from next out → length sizes ≤ i → Puts place (rowsOf sizes costs) (bitsOf sheet) next (bitsOf out)
   unfolding costRows
   rows-end s past = part-end (rw (drop-of-length-le sizes past)) (s .puts)
+
+-- ---- the decision variables, then the state variables
+
+-- the sizes of the state variables
+abbrev pub statesFrom : (d : ℕ) (sizes : List ℕ) → List ℕ
+statesFrom d sizes = take (length sizes - d) (drop d sizes)
+
+module _ (d : ℕ) (sizes : List ℕ) where
+  pub decisions-sized : All Sized sizes → All Sized (take d sizes)
+  decisions-sized a = all-left Sized (take d sizes) (drop d sizes) (rw (take-append-drop d sizes) a)
+
+  pub states-sized : All Sized sizes → All Sized (statesFrom d sizes)
+  states-sized a = rw (part-to-end sizes d) (all-right Sized (take d sizes) (drop d sizes) (rw (take-append-drop d sizes) a))
+
+  module _ (costs : List ℕ) where
+    -- the bits of both
+    pub both-length : length (rowsOf (take d sizes) costs ++ inTurn stateWritten (drop d sizes)) ≡ length (rowsOf (take d sizes) costs) + length (inTurn stateWritten (statesFrom d sizes))
+    both-length = rw (part-to-end sizes d) (length-append (rowsOf (take d sizes) costs) (inTurn stateWritten (drop d sizes)))
+
+    pub both-put : {place mid next : ℕ} {before between after : List ℕ} → place ≤ length before
+        → Puts place (rowsOf (take d sizes) costs) before mid between → Puts mid (inTurn stateWritten (statesFrom d sizes)) between next after
+        → Puts place (rowsOf (take d sizes) costs ++ inTurn stateWritten (drop d sizes)) before next after
+    both-put within p q = puts-then within p (rw (part-to-end sizes d) at q)

@@ -1,17 +1,10 @@
 -- `write_variables::variables` meets its contract: the decision variables are put, then the state variables. Assumes nothing.
 use borrow.Author.Needs.{needs}
-use borrow.Rule.Slice.PartAt.{part-to-end}
-use native.Mathlib.Omega.{arith}
 use mathlib.Core.Path.{sym}
-use lib.ListN.{take, drop, length-append, take-append-drop}
+use native.Mathlib.Omega.{arith}
 use lib.Seq.{length-take-le}
-use Rattle.model.specs.Lists.{inTurn}
-use Rattle.model.specs.Tables.{stateWritten}
-use Rattle.theory.specs.Plant.{Sized}
-use Rattle.theory.proofs.Lists.{all-left, all-right}
-use Rattle.theory.proofs.Puts.{puts-then}
 use Rattle.theory.proofs.Bits.{bits-length}
-use Rattle.write_variables.proofs.Laws.{rowsOf}
+use Rattle.write_variables.proofs.Laws.{decisions-sized, states-sized, both-length, both-put}
 use Rattle.write_variables.proofs.variables.Statement.{statement}
 use Rattle.write_variables.proofs.variables.Tie as tie
 
@@ -22,9 +15,7 @@ decisions-requires : tie.Need-decisions-requires
 decisions-requires c κs =
     let start = c .before .before .before .before .before in
     let s = start .args in
-    let sizes = s .sizes .now in
-    let long = length-append (rowsOf (take (s .d) sizes) (s .costs .now)) (inTurn stateWritten (drop (s .d) sizes)) in
-    (all-left Sized (take (s .d) sizes) (drop (s .d) sizes) (rw (take-append-drop (s .d) sizes) (start .pre .0)), start .pre .2, omega (arith, long), start .pre .4)
+    (decisions-sized (s .d) (s .sizes .now) (start .pre .0), start .pre .2, omega (arith, both-length (s .d) (s .sizes .now) (s .costs .now)), start .pre .4)
 
 sub-states : tie.Need-sub-states
 sub-states c = search needs
@@ -37,22 +28,18 @@ part-states-end c = search needs
 
 states-requires : tie.Need-states-requires
 states-requires c κs =
-    let put = c .before .before .before .before .decisions in
     let start = c .before .before .before .before .before .before .before .before .before .before in
     let s = start .args in
-    let sizes = s .sizes .now in
-    let long = length-append (rowsOf (take (s .d) sizes) (s .costs .now)) (inTurn stateWritten (drop (s .d) sizes)) in
-    rw (part-to-end sizes (s .d)) (all-right Sized (take (s .d) sizes) (drop (s .d) sizes) (rw (take-append-drop (s .d) sizes) (start .pre .0)), omega (arith, long, put .ensures .ends), omega arith)
+    (states-sized (s .d) (s .sizes .now) (start .pre .0), omega (arith, both-length (s .d) (s .sizes .now) (s .costs .now)), omega arith)
 
 same-length : tie.Need-same-length
 same-length c = search needs
 
 returns : tie.Need-returns
 returns c =
-    let put = c .before .before .before .before .before .before .before .decisions in
-    let start = c .before .before .before .before .before .before .before .before .before .before .before .before .before in
-    let s = start .args in
-    puts-then (omega (arith, bits-length (s .sheet .now))) (put .ensures) (rw (part-to-end (s .sizes .now) (s .d)) at (c .before .before .states .ensures))
+    let decisions = c .before .before .before .before .before .before .before .decisions in
+    let s = c .before .before .before .before .before .before .before .before .before .before .before .before .before .args in
+    both-put (s .d) (s .sizes .now) (s .costs .now) (omega (arith, bits-length (s .sheet .now))) (decisions .ensures) (c .before .before .states .ensures)
 
 pub variables-spec : {M : Type 1} → statement M
 variables-spec =
