@@ -1,7 +1,7 @@
 // The call that writes a sheet of tables into a lent buffer, whatever these are: the refusals in their order, or the sheet at
 // the buffer's front.
 ghost use mathlib.Core.Path.{_≡_};
-ghost use Rattle.model.specs.TableCalls.{Wrote, writeCall};
+ghost use Rattle.model.specs.TableCalls.{writeCall};
 ghost use Rattle.theory.specs.WriteRead.{WritePromises};
 ghost use Rattle.refusal.specs.Refusal.{writtenOf};
 ghost use Rattle.theory.specs.Tables.{tablesGiven};
