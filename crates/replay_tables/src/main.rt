@@ -24,6 +24,11 @@ ghost use Prim.Native.Nat.{_≤_};
 ghost use lib.ListN.{length};
 ghost use Rattle.vectors.specs.Bytes.{checksumStart, over, mix, mix16};
 
+// What the tables that are lent to a reading hold before, in every byte.
+const JUNK: u8 = 0xa5;
+
+const COST_JUNK: u16 = 0xa5a5;
+
 // Makes every byte the same.
 fn fill(bytes: &mut [u8], byte: u8) {
     let mut i = 0;
@@ -45,7 +50,12 @@ fn read_costs(costs: &mut [u16], n: usize)
 }
 
 // The checksum of every entry of lent tables.
-fn checksum(sizes: &[u8], costs: &[u16], counts: &[u8], lits: &[u8]) -> u32
+fn checksum(
+    sizes: &[u8; SIZE_ENTRIES],
+    costs: &[u16; COST_ENTRIES],
+    counts: &[u8; COUNT_ENTRIES],
+    lits: &[u8; LITERAL_BYTES],
+) -> u32
     ensures { λ r. ⌜ r ≡ over mix (over mix (over mix16 (over mix checksumStart (now (sizes .entry))) (now (costs .entry))) (now (counts .entry))) (now (lits .entry)) ⌝ }
 {
     let sized = mixed_all(CHECKSUM_START, sizes);
@@ -54,12 +64,17 @@ fn checksum(sizes: &[u8], costs: &[u16], counts: &[u8], lits: &[u8]) -> u32
     mixed_all(counted, lits)
 }
 
-// Reads a sheet into lent tables and prints its numbers and their checksum.
+// Prints a number and a space.
+fn print_count(n: u32) {
+    print_number(n as u64, b' ');
+}
+
+// Reads a sheet into lent tables, and prints its numbers and a checksum of the tables.
 fn read_back(sheet: &[u8]) {
-    let mut sizes = [0xa5u8; SIZE_ENTRIES];
-    let mut costs = [0xa5a5u16; COST_ENTRIES];
-    let mut counts = [0xa5u8; COUNT_ENTRIES];
-    let mut lits = [0xa5u8; LITERAL_BYTES];
+    let mut sizes = [JUNK; SIZE_ENTRIES];
+    let mut costs = [COST_JUNK; COST_ENTRIES];
+    let mut counts = [JUNK; COUNT_ENTRIES];
+    let mut lits = [JUNK; LITERAL_BYTES];
     let mut numbers = [0u32; 3];
     match read_call::read_call(
         sheet,
@@ -71,9 +86,9 @@ fn read_back(sheet: &[u8]) {
     ) {
         Opened::Refused(r) => print_refusal(r, b' '),
         Opened::Tables => {
-            print_number(numbers[0] as u64, b' ');
-            print_number(numbers[1] as u64, b' ');
-            print_number(numbers[2] as u64, b' ');
+            print_count(numbers[0]);
+            print_count(numbers[1]);
+            print_count(numbers[2]);
         }
     }
     print_hex8(checksum(&sizes, &costs, &counts, &lits), b'\n');
@@ -109,14 +124,25 @@ fn answer(
         }
         Written::Bytes(n) => {
             print_text(b"wrote ");
-            print_number(n as u64, b' ');
+            print_count(n);
             print_hex8(mixed_all(CHECKSUM_START, sheet), b' ');
             n as usize
         }
     }
 }
 
-// Reads one case, answers it, and reads back what was written.
+// Reads the rest of a case, its buffer's length and byte; answers it, and reads back what was written.
+fn replay_on(sizes: &[u8], costs: &[u16], counts: &[u8], lits: &[u8], d: u32, s: u32, c: u32) {
+    let room = read_u16();
+    let mut sheet = io::large_buffer();
+    fill(&mut sheet, read_u8());
+    let n = answer(sizes, costs, counts, lits, &mut sheet[..room], d, s, c);
+    if n > 0 {
+        read_back(&sheet[..n]);
+    }
+}
+
+// Reads one case and answers it.
 fn replay() {
     let d = read_u32();
     let s = read_u32();
@@ -130,22 +156,15 @@ fn replay() {
     let counts_len = read_block(&mut counts, read_u16());
     let mut lits = io::large_buffer();
     let lits_len = read_block(&mut lits, read_u16());
-    let mut sheet = io::large_buffer();
-    let room = read_u16();
-    fill(&mut sheet, read_u8());
-    let n = answer(
+    replay_on(
         &sizes[..sizes_len],
         &costs[..costs_len],
         &counts[..counts_len],
         &lits[..lits_len],
-        &mut sheet[..room],
         d,
         s,
         c,
     );
-    if n > 0 {
-        read_back(&sheet[..n]);
-    }
 }
 
 // Reads the number of cases, and replays each.
