@@ -1,24 +1,26 @@
 -- A field put into the three bytes around its place. Assumes nothing.
 use mathlib.Core.Path.{_≡_, refl, sym, ap, _∙_}
+use mathlib.Core.Logic.{_≢_}
 use mathlib.Core.List.{List, [], _∷_, _++_, append-assoc}
 use Prim.Native.Nat.{ℕ, zero, suc, _+_, _-_, _*_, _/_, _%_, _^_, _≤_, _<_}
 use native.Mathlib.Omega.{arith}
-use native.Mathlib.Nat.{one-le-pow, div-add-mod', mod-lt, mod-eq-of-lt, div-one, add-assoc, lt-of-lt-of-le}
+use native.Mathlib.Nat.{one-le-pow, div-add-mod', mod-lt, zero-add, zero-mul, div-one}
 use lib.Arith.{digits-lt}
-use lib.Bits.{bitAnd, and-mask}
-use lib.Pow.{pow-pos, pow-mono, pow-add, shl-lt, shl-exact, split}
-use lib.ListN.{length, take, drop, set, replicate, length-append, length-replicate, length-drop, take-append-drop}
-use lib.Seq.{getD-drop, length-take-le, take-at, drop-at, take-append-le, drop-append-le, take-append-add, drop-append-add, take-append-seam, drop-drop, sets, sets-eq, length-sets}
+use lib.Bits.{bitAnd, bitOr, and-mask, and-block, and-shr, and-mod, or-block, or-zero-r, or-shifted-r, or-shr, or-mod}
+use lib.Pow.{pow-pos, pow-mono, pow-add, shl-lt, shr-mod, split, mod-mod-pow, high-ones}
+use lib.ListN.{length, getD, take, drop, set, replicate, length-append, length-drop, take-append-drop}
+use lib.Seq.{getD-drop, getD-set-other, length-take-le, take-at, drop-at, take-append-le, drop-append-le, take-append-add, drop-append-add, take-append-seam, drop-drop, sets, sets-eq, length-sets}
 use Rattle.model.specs.Digits.{number, digits}
 use Rattle.theory.specs.Digits.{Below}
-use Rattle.theory.specs.Puts.{written, Puts, bitsOf}
+use Rattle.theory.specs.Puts.{written, bitsOf}
 use Rattle.theory.proofs.Lists.{all-join, in-turn-join}
-use Rattle.theory.proofs.Digits.{digits-length, digits-low, digits-join, digits-made, number-first, number-same}
+use Rattle.theory.proofs.Digits.{digits-length, below-at, digits-low, digits-join, digits-made, number-below, number-first, number-same}
 use Rattle.theory.proofs.Fields.{bytes-bits, below-drop}
 use Rattle.theory.proofs.Written.{zeros-behind, below-take}
 use Rattle.theory.proofs.Puts.{written-length}
 use Rattle.theory.proofs.Bits.{bits-length}
-use Rattle.bits.proofs.Laws.{one-shifted}
+use Rattle.bits.specs.Blend.{blended}
+use Rattle.bits.proofs.Laws.{three}
 
 -- ---- a number with some of its digits replaced
 
@@ -127,7 +129,7 @@ module _ (bytes : List ℕ) (are : Below 256 bytes) (n i : ℕ) (there : i + n �
       rw (after, bits-parts new, e, before, place, written-behind o top (old ++ rest) t, written-before o old rest t (omega (arith, digits-length 2 (8 * n) (number 256 n (drop i bytes)))))
 
 -- the field of w bits at a place of a sheet, put by the three bytes around it, with zeros in the place of those past the end
-pub put-three : (sheet : List ℕ) → Below 256 sheet → (place w v new : ℕ) → w ≤ 16 → place + w ≤ 8 * length sheet
+put-three : (sheet : List ℕ) → Below 256 sheet → (place w v new : ℕ) → w ≤ 16 → place + w ≤ 8 * length sheet
     → digits 2 24 new ≡ written (place % 8) (digits 2 w v) (digits 2 24 (number 256 3 (drop (place / 8) sheet)))
     → bitsOf (sets sheet (place / 8) (digits 256 3 new)) ≡ written place (digits 2 w v) (bitsOf sheet)
 put-three sheet bytes place w v new h inside e =
@@ -150,35 +152,71 @@ put-three sheet bytes place w v new h inside e =
     rw (first, ← bits-take (length sheet) (sets longer i (digits 256 3 new)) (omega (arith, length-sets longer i (digits 256 3 new))), put, bits, written-before place (bitsOf sheet) (bitsOf zeros) t (omega (arith, bits-length sheet)))
     (take-at (written place t (bitsOf sheet)) (bitsOf zeros) (8 * length sheet) kept)
 
--- ---- in a u32
+-- ---- by blending
 
--- three bytes of a word, set one by one
-pub set-three : (l : List ℕ) (i all : ℕ) → set (set (set l i (bitAnd (all / 2 ^ 16) 255)) (i + 1) (bitAnd (all / 2 ^ 8) 255)) (i + 2) (bitAnd all 255) ≡ sets l i (digits 256 3 all)
-unfolding digits
-set-three l i all =
+-- a byte of a blend is a blend of the byte
+blended-byte : (x y keep field : ℕ) → x % 256 ≡ y % 256 → blended x keep field % 256 ≡ blended y keep field % 256
+blended-byte x y keep field e =
+    or-mod (bitAnd x keep) field 8 ∙ ap (λ (z : ℕ). bitOr z (field % 256)) (and-mod x keep 8 ∙ ap (λ (z : ℕ). bitAnd z (keep % 256)) e ∙ sym (and-mod y keep 8)) ∙ sym (or-mod (bitAnd y keep) field 8)
+
+blended-before : (k x y keep field : ℕ) → x / 2 ^ k % 256 ≡ y % 256 → blended x keep field / 2 ^ k % 256 ≡ blended y (keep / 2 ^ k) (field / 2 ^ k) % 256
+blended-before k x y keep field e = rw (or-shr (bitAnd x keep) field k, and-shr x keep k) (blended-byte (x / 2 ^ k) y (keep / 2 ^ k) (field / 2 ^ k) e)
+
+-- three bytes set one by one
+sets-three : (l : List ℕ) (i x y z : ℕ) → set (set (set l i x) (i + 1) y) (i + 2) z ≡ sets l i (x ∷ y ∷ z ∷ [])
+sets-three l i x y z =
     let second : i + 1 ≡ suc i = omega arith in
     let third : i + 2 ≡ suc (suc i) = omega arith in
-    let last : all / 256 ^ 0 ≡ all = div-one all in
-    rw (and-mask (all / 2 ^ 16) 8, and-mask (all / 2 ^ 8) 8, and-mask all 8, second, third, digits, last)
+    rw (second, third)
 
--- a word below 2 ^ 24 with a field of w bits replaced, so many bits before its end
-module _ (all w behind v : ℕ) (h : w + behind ≤ 24) (small : all < 2 ^ 24) (narrow : v < 2 ^ w) where
-  abbrev new : ℕ
-  new = all / 2 ^ (w + behind) * 2 ^ (w + behind) + v * 2 ^ behind + all % 2 ^ behind
+-- three bytes blended one by one
+pub blended-three : (l : List ℕ) → Below 256 l → (i keep field : ℕ) (l₁ l₂ l₃ : List ℕ)
+    → l₁ ≡ set l i (blended (getD l i 0) (keep / 2 ^ 16) (field / 2 ^ 16) % 256)
+    → l₂ ≡ set l₁ (i + 1) (blended (getD l₁ (i + 1) 0) (keep / 2 ^ 8) (field / 2 ^ 8) % 256)
+    → l₃ ≡ set l₂ (i + 2) (blended (getD l₂ (i + 2) 0) keep field % 256)
+    → l₃ ≡ sets l i (digits 256 3 (blended (number 256 3 (drop i l)) keep field))
+unfolding digits
+blended-three l bytes i keep field l₁ l₂ l₃ e₁ e₂ e₃ =
+    let all = number 256 3 (drop i l) in
+    let word : all ≡ getD l i 0 * 65536 + getD l (i + 1) 0 * 256 + getD l (i + 2) 0 = three l i in
+    let small : (v : ℕ) → getD l v 0 < 256 = λ v. below-at 256 l v (omega arith) bytes in
+    let p : i + 1 ≢ i = λ e. omega arith in
+    let q : i + 2 ≢ i = λ e. omega arith in
+    let r : i + 2 ≢ i + 1 = λ e. omega arith in
+    let b : getD l₁ (i + 1) 0 ≡ getD l (i + 1) 0 = rw (e₁, getD-set-other) in
+    let c : getD l₂ (i + 2) 0 ≡ getD l (i + 2) 0 = rw (e₂, getD-set-other, e₁, getD-set-other) in
+    let first : blended all keep field / 256 ^ 2 % 256 ≡ blended (getD l i 0) (keep / 2 ^ 16) (field / 2 ^ 16) % 256 =
+    blended-before 16 all (getD l i 0) keep field (omega (arith, small i, small (i + 1), small (i + 2))) in
+    let middle : blended all keep field / 256 ^ 1 % 256 ≡ blended (getD l (i + 1) 0) (keep / 2 ^ 8) (field / 2 ^ 8) % 256 =
+    blended-before 8 all (getD l (i + 1) 0) keep field (omega (arith, small (i + 1), small (i + 2))) in
+    let last : blended all keep field / 256 ^ 0 % 256 ≡ blended (getD l (i + 2) 0) keep field % 256 =
+    rw (div-one (blended all keep field)) (blended-byte all (getD l (i + 2) 0) keep field (omega (arith, small (i + 2)))) in
+    rw (e₃, c, e₂, b, e₁, digits, first, middle, last)
+    (sets-three l i (blended (getD l i 0) (keep / 2 ^ 16) (field / 2 ^ 16) % 256) (blended (getD l (i + 1) 0) (keep / 2 ^ 8) (field / 2 ^ 8) % 256) (blended (getD l (i + 2) 0) keep field % 256))
 
-  pub word-fits : new < 4294967296
-  word-fits =
-      let field : v * 2 ^ behind < 16777216 = lt-of-lt-of-le (shl-lt w behind narrow) (pow-mono h) in
-      omega (arith, split all (w + behind), split all behind)
+-- a word with the field of w bits, o bits from its beginning and k bits before its end, blended in
+module _ (o w k all v : ℕ) (small : all < 2 ^ (o + (w + k))) (narrow : v < 2 ^ w) where
+  blended-sum : blended all (2 ^ (o + (w + k)) - 2 ^ (w + k) + (2 ^ k - 1)) (v * 2 ^ k) ≡ all / 2 ^ (w + k) * 2 ^ (w + k) + (v * 2 ^ k + all % 2 ^ k)
+  blended-sum =
+      let s : ℕ = w + k in
+      let low : all % 2 ^ k < 2 ^ k = mod-lt all (pow-pos k) in
+      let power : 2 ^ k ≤ 2 ^ s = pow-mono (omega arith) in
+      let kept : bitAnd all ((2 ^ o - 1) * 2 ^ s + (2 ^ k - 1)) ≡ all / 2 ^ s * 2 ^ s + all % 2 ^ k =
+      rw (split all s) at (and-block s (all / 2 ^ s) (2 ^ o - 1) (all % 2 ^ s) (2 ^ k - 1) (mod-lt all (pow-pos s)) (omega (arith, pow-pos k)))
+      ∙ rw (and-mask (all / 2 ^ s) o, and-mask (all % 2 ^ s) k, mod-mod-pow all w k, shr-mod o s small) in
+      let set : bitOr (all / 2 ^ s * 2 ^ s + all % 2 ^ k) (v * 2 ^ k) ≡ bitOr (all / 2 ^ s) 0 * 2 ^ s + bitOr (all % 2 ^ k) (v * 2 ^ k) =
+      rw (zero-mul (2 ^ s), zero-add (v * 2 ^ k)) at (or-block s (all / 2 ^ s) 0 (all % 2 ^ k) (v * 2 ^ k) (omega arith) (shl-lt w k narrow)) in
+      rw (high-ones o s, kept, set, or-zero-r (all / 2 ^ s), or-shifted-r v k (all % 2 ^ k) low)
 
-  -- by shifts and a mask
-  pub word-shifted : all / 2 ^ (w + behind) * 2 ^ (w + behind) % 4294967296 + v * 2 ^ behind % 4294967296 + bitAnd all (1 * 2 ^ behind % 4294967296 - 1) ≡ new
-  word-shifted =
-      let top : all / 2 ^ (w + behind) * 2 ^ (w + behind) % 4294967296 ≡ all / 2 ^ (w + behind) * 2 ^ (w + behind) = mod-eq-of-lt (omega (arith, split all (w + behind))) in
-      rw (top, shl-exact w behind 32 narrow (omega arith), one-shifted behind (omega arith), and-mask all behind)
+  blended-digits : digits 2 (o + (w + k)) (blended all (2 ^ (o + (w + k)) - 2 ^ (w + k) + (2 ^ k - 1)) (v * 2 ^ k)) ≡ written o (digits 2 w v) (digits 2 (o + (w + k)) all)
+  blended-digits = rw blended-sum (digits-replaced 2 o w k all v (omega arith) narrow)
 
-  pub word-replaced : digits 2 24 new ≡ written (24 - (w + behind)) (digits 2 w v) (digits 2 24 all)
-  word-replaced =
-      let o : ℕ = 24 - (w + behind) in
-      let e : o + (w + behind) ≡ 24 = omega arith in
-      rw add-assoc (rw e at (digits-replaced 2 o w behind all v (omega arith) narrow))
+-- the field of w bits at a place of a sheet, blended into the three bytes around it
+pub put-blended : (sheet : List ℕ) → Below 256 sheet → (place w v rest : ℕ) → place % 8 + w + rest ≡ 24 → w ≤ 16 → v < 2 ^ w → place + w ≤ 8 * length sheet
+    → bitsOf (sets sheet (place / 8) (digits 256 3 (blended (number 256 3 (drop (place / 8) sheet)) (2 ^ 24 - 2 ^ (w + rest) + (2 ^ rest - 1)) (v * 2 ^ rest)))) ≡ written place (digits 2 w v) (bitsOf sheet)
+put-blended sheet bytes place w v rest e h narrow inside =
+    let all = number 256 3 (drop (place / 8) sheet) in
+    let parts : place % 8 + (w + rest) ≡ 24 = omega arith in
+    let small : all < 2 ^ 24 = number-below 256 3 (drop (place / 8) sheet) (omega arith) (below-drop 256 (place / 8) sheet bytes) in
+    put-three sheet bytes place w v (blended all (2 ^ 24 - 2 ^ (w + rest) + (2 ^ rest - 1)) (v * 2 ^ rest)) h inside
+    (rw parts at (blended-digits (place % 8) w rest all v (rw parts small) narrow))

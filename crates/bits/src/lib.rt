@@ -8,8 +8,12 @@ ghost use lib.ListN.{length, getD, drop, set};
 ghost use lib.Seq.{sets};
 ghost use Rattle.model.specs.Digits.{number, digits};
 ghost use Rattle.model.specs.Sheet.{bitsAt, field};
-ghost use Rattle.theory.specs.Puts.{written, Puts, bitsOf};
+ghost use Rattle.theory.specs.Puts.{Puts, bitsOf};
 ghost use Rattle.bits.specs.Field.{fieldOf};
+ghost use Rattle.bits.specs.Blend.{blended};
+
+// The least number that is no word of three bytes.
+const ABOVE_WORDS: u32 = 16777216;
 
 // What stands at a place: a number, or nothing because the field runs past the end.
 pub enum Field {
@@ -116,35 +120,31 @@ pub fn three(sheet: &[u8], place: usize, a: usize, b: usize, c: usize) -> Fields
     }
 }
 
-// Sets a byte of the sheet; past the end there is none.
-fn set_byte(sheet: &mut [u8], i: usize, b: u32)
-    requires { ⌜ b < 256 ⌝ }
-    ensures { λ _. ⌜ now (sheet .exit) ≡ set (now (sheet .entry)) i b ⌝ }
+// Sets a byte of the sheet: the bits that `keep` has stay, the others are those of `field`. Past the end there is none.
+fn set_byte(sheet: &mut [u8], i: usize, keep: u32, field: u32)
+    ensures { λ _. ⌜ now (sheet .exit) ≡ set (now (sheet .entry)) i (blended (getD (now (sheet .entry)) i 0) keep field % 256) ⌝ }
 {
     if i < sheet.len() {
-        sheet[i] = b as u8;
+        sheet[i] = ((sheet[i] as u32 & keep | field) % 256) as u8;
     }
 }
 
-// Sets the three bytes around a place to those of a word; past the end there are none.
-fn set_word(sheet: &mut [u8], place: usize, all: u32)
-    ensures { λ _. ⌜ now (sheet .exit) ≡ sets (now (sheet .entry)) (place / 8) (digits 256 3 all) ⌝ }
+// Sets the three bytes around a place in the same way. Byte by byte, since a byte that was just set is at hand soonest by itself.
+fn set_word(sheet: &mut [u8], place: usize, keep: u32, field: u32)
+    ensures { λ _. ⌜ now (sheet .exit) ≡ sets (now (sheet .entry)) (place / 8) (digits 256 3 (blended (number 256 3 (drop (place / 8) (now (sheet .entry)))) keep field)) ⌝ }
 {
     let i = place / 8;
-    set_byte(sheet, i, (all >> 16) & 255);
-    set_byte(sheet, i + 1, (all >> 8) & 255);
-    set_byte(sheet, i + 2, all & 255);
+    set_byte(sheet, i, keep >> 16, field >> 16);
+    set_byte(sheet, i + 1, keep >> 8, field >> 8);
+    set_byte(sheet, i + 2, keep, field);
 }
 
-// A word of three bytes with a field of w bits replaced, so many bits before its end.
-fn replaced(all: u32, w: usize, behind: usize, v: u32) -> u32
-    requires { ⌜ (w + behind ≤ 24) × (all < 2 ^ 24) × (v < 2 ^ w) ⌝ }
-    ensures { λ r. ⌜ digits 2 24 r ≡ written (24 - (w + behind)) (digits 2 w v) (digits 2 24 all) ⌝ }
+// The bits of a word outside a field of w bits that stands so many bits before its end.
+fn outside(w: usize, behind: usize) -> u32
+    requires { ⌜ w + behind ≤ 24 ⌝ }
+    ensures { λ r. ⌜ r ≡ 2 ^ 24 - 2 ^ (w + behind) + (2 ^ behind - 1) ⌝ }
 {
-    let above = w + behind;
-    let top = all >> above << above;
-    let low = all & ((1 << behind) - 1);
-    top + (v << behind) + low
+    ABOVE_WORDS - (1 << (w + behind)) + ((1 << behind) - 1)
 }
 
 // Puts a number as the field of w bits at a place, and answers the place after it. Every other bit stays.
@@ -152,9 +152,7 @@ pub fn put(sheet: &mut [u8], place: usize, w: usize, v: u32) -> usize
     requires { ⌜ (w ≤ 16) × (v < 2 ^ w) × (place + w ≤ 8 * length (now sheet)) × (place + w < 2 ^ 64) ⌝ }
     ensures { λ r. ⌜ Puts place (digits 2 w v) (bitsOf (now (sheet .entry))) r (bitsOf (now (sheet .exit))) ⌝ }
 {
-    let all = word(sheet, place);
-    let behind = after(place, w);
-    let new = replaced(all, w, behind, v);
-    set_word(sheet, place, new);
+    let rest = after(place, w);
+    set_word(sheet, place, outside(w, rest), v << rest);
     place + w
 }
