@@ -71,6 +71,7 @@ total-most test m h (suc i) (n ∷ l) a = go (total-most test m h i l) (test n) 
     go others true e = omega (arith, h n e, suc-mul i m, others (rw (allOf, e) at a))
     go others false e = absurd (false≢true (rw (allOf, e) at a))
 
+-- the most entries of each table: 48 variables, 16 costs for each of 16 decision variables, 512 clauses, three bytes for each of 15 literals
 pub record Most (t : Tables) : Type 0 where
   pub sizes : length (t .sizes) ≤ 48
   pub costs : length (t .costs) ≤ 256
