@@ -14,9 +14,20 @@ BATCH = 100
 TIME_MOST = 300  # seconds for a batch
 SHOWN_MOST = 10
 WIDTHS = {
-    **{"sheet": 1, "codes": 8, "costs": 4, "queue": 8, "store": 8, "conflict": 8, "result": 4},
-    **{"sizes": 1, "value costs": 2, "counts": 1, "literals": 1, "numbers": 4, "written": 4},
-}
+    "sheet": 1,
+    "codes": 8,
+    "costs": 4,
+    "queue": 8,
+    "store": 8,
+    "conflict": 8,
+    "result": 4,
+    "sizes": 1,
+    "value costs": 2,
+    "counts": 1,
+    "literals": 1,
+    "numbers": 4,
+    "written": 4,
+}  # of a word of each buffer, in bytes
 
 
 class Answer(NamedTuple):
@@ -73,7 +84,7 @@ def replay(driver, names, cases):
             sys.exit(f"scale: {name}: no answer, the driver ended with {done.returncode}")
         answers.append(answer)
     if place != len(done.stdout) or done.returncode:
-        sys.exit(f"scale: after {names[-1:]}: the driver ended with {done.returncode}")
+        sys.exit(f"scale: after {names[-1]}: the driver ended with {done.returncode}")
     return answers
 
 
@@ -136,6 +147,8 @@ class Tally:
 
 def run_batch(driver, names, pairs, tally):
     """Cases with what is wanted of each; the archive's answers."""
+    if not pairs:
+        return []
     answers = replay(driver, names, [case for case, _ in pairs])
     for name, (case, want), got in zip(names, pairs, answers):
         tally.check(name, case, got, want)
