@@ -111,7 +111,7 @@ sheets =
     ∷ row (tables 2 0 0 (1 ∷ 2 ∷ []) (0 ∷ 2 ∷ 1 ∷ []) [] []) 12 (sheet oneValue)
     -- the greatest and least of each field: a size of 16 and one of 1, a cost of 65,535, value 15, sign 1, an empty clause
     ∷ row (tables 1 2 2 (16 ∷ 1 ∷ 16 ∷ []) (65535 ∷ 0 ∷ 0x8001 ∷ 0x1234 ∷ replicate 12 0) (0 ∷ 1 ∷ []) (2 ∷ 1 ∷ 15 ∷ [])) 42
-      (sheet (0x01 ∷ 0x08 ∷ 0x40 ∷ 0x17 ∷ 0xff ∷ 0xff ∷ 0x80 ∷ 0x00 ∷ 0x40 ∷ 0x00 ∷ 0x89 ∷ 0x1a ∷ replicate 24 0 ++ (0x07 ∷ 0x80 ∷ 0x85 ∷ 0xf0 ∷ [])))
+    (sheet (0x01 ∷ 0x08 ∷ 0x40 ∷ 0x17 ∷ 0xff ∷ 0xff ∷ 0x80 ∷ 0x00 ∷ 0x40 ∷ 0x00 ∷ 0x89 ∷ 0x1a ∷ replicate 24 0 ++ (0x07 ∷ 0x80 ∷ 0x85 ∷ 0xf0 ∷ [])))
     -- the bits fill the last byte: there is no filler
     ∷ row (tables 1 0 1 (1 ∷ []) (9 ∷ []) (1 ∷ []) (0 ∷ 1 ∷ 0 ∷ [])) 10 (sheet (0x01 ∷ 0x08 ∷ 0x00 ∷ 0x08 ∷ 0x00 ∷ 0x04 ∷ 0x88 ∷ 0x10 ∷ []))
     -- 15 literals

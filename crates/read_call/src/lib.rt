@@ -33,5 +33,4 @@ pub fn read_call(
         let after : Tables = tablesLent (now (sizes .exit)) (now (costs .exit)) (now (counts .exit)) (now (lits .exit)) (now (numbers .exit)) in
         Answers r (readTables (now (sheet .entry))) × (after ≡ tablesAfter before (readTables (now (sheet .entry))))) ⌝ }
     ensures right { λ r. ⌜ ReadPromises (now (sheet .entry)) (readTables (now (sheet .entry))) (tablesLent (now (sizes .exit)) (now (costs .exit)) (now (counts .exit)) (now (lits .exit)) (now (numbers .exit))) ⌝ }
-{
-}
+{}
