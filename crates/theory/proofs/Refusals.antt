@@ -141,11 +141,11 @@ literal-numbers domains [] = tt
 literal-numbers domains (l ∷ ls) = all-join (λ g. TableAuthorNumber (g .number)) (literalGrounds domains l) (inTurn (literalGrounds domains) ls) (inr (omega arith, omega arith), (inr (omega arith, omega arith), tt)) (literal-numbers domains ls)
 
 module _ (t : Tables) (buffer : List ℕ) where
-  length-number : (n : ℕ) → firstGiven (lengthGrounds t) ≡ some n → TableHostNumber n
+  pub length-number : (n : ℕ) → firstGiven (lengthGrounds t) ≡ some n → TableHostNumber n
   unfolding lengthGrounds
   length-number n q = first-number TableHostNumber (lengthGrounds t) (inl refl, tt) n q
 
-  table-number : (n : ℕ) → firstGiven (tableGrounds edition1 t) ≡ some n → TableAuthorNumber n
+  pub table-number : (n : ℕ) → firstGiven (tableGrounds edition1 t) ≡ some n → TableAuthorNumber n
   unfolding tableGrounds
   table-number n q = first-number TableAuthorNumber (tableGrounds edition1 t)
       (inl refl, (inr (omega arith, omega arith), (inr (omega arith, omega arith), (inr (omega arith, omega arith), literal-numbers (t .sizes) (literals (t .literals)))))) n q

@@ -1,6 +1,7 @@
 -- The writing call by what its tests find: a refusal, or the sheet at the buffer's front. Assumes nothing.
 use mathlib.Core.Path.{_≡_, refl, sym, ap, _∙_}
 use mathlib.Core.Bool.{Bool, true, false, not, _&&_, false≢true}
+use mathlib.Core.Logic.{inl, inr}
 use mathlib.Core.Option.{Option, none, some}
 use mathlib.Core.List.{List, [], _∷_, _++_}
 use Prim.Native.Nat.{ℕ, zero, suc, _+_, _*_, _/_, _^_, _≤_, _<_}
@@ -10,15 +11,16 @@ use lib.Dec.{leb}
 use lib.ListN.{length, take, drop}
 use lib.Seq.{take-length}
 use borrow.Author.Tests.{leb-true, lt-ltb, le-ltb, not-false}
-use Rattle.model.specs.Lists.{All, allOf, inTurn}
+use Rattle.model.specs.Lists.{allOf}
 use Rattle.model.specs.Sheet.{Literal, edition1, decisionsAllowed}
-use Rattle.model.specs.Calls.{byHost, byAuthor, Ground, firstGiven, Answered, answered}
+use Rattle.model.specs.Calls.{byHost, byAuthor, firstGiven, Answered, answered}
 use Rattle.model.specs.Tables.{Tables, total, literals, plantOf, sheetOf}
-use Rattle.model.specs.TableCalls.{unwritten, lengthsAgree, fieldsFit, lengthGrounds, literalGrounds, tableGrounds, roomGrounds, writeSheet, writeCall}
+use Rattle.model.specs.TableCalls.{unwritten, lengthsAgree, fieldsFit, lengthGrounds, tableGrounds, roomGrounds, writeSheet, writeCall}
 use Rattle.theory.specs.Digits.{Below}
 use Rattle.theory.specs.WriteRead.{WritePromises}
 use Rattle.theory.proofs.Lists.{and-both}
 use Rattle.theory.proofs.PlantTables.{agreed, none-given, tables-bits}
+use Rattle.theory.proofs.Refusals.{length-number, table-number}
 use Rattle.theory.proofs.WriteRead.{call-writes, write-promises}
 use Rattle.theory.proofs.Written.{sheet-length}
 use Rattle.refusal.specs.Refusal.{groundNumber}
@@ -30,33 +32,22 @@ given-by : {n : ℕ} (o : Option ℕ) → n ≡ groundNumber o → (n ≡ 0 → 
 given-by none e h = absurd (h e)
 given-by (some m) e h = ap some (sym e)
 
--- where no ground has the number 0, none is given if the first's number is 0
-none-by : (gs : List Ground) → All (λ g. 0 < g .number) gs → 0 ≡ groundNumber (firstGiven gs) → firstGiven gs ≡ none
-unfolding firstGiven
-none-by [] a h = refl
-none-by (g ∷ gs) a h = go (none-by gs (a .1)) (g .given) refl
-  where
-    go : (0 ≡ groundNumber (firstGiven gs) → firstGiven gs ≡ none) → (b : Bool) → g .given ≡ b → firstGiven (g ∷ gs) ≡ none
-    go others true e = absurd (let z : 0 ≡ g .number = rw (firstGiven, e) at h in omega (arith, a .0))
-    go others false e = rw (firstGiven, e) (others (rw (firstGiven, e) at h))
+-- no ground has the number 0
+none-by : (o : Option ℕ) → ((n : ℕ) → o ≡ some n → 0 < n) → 0 ≡ groundNumber o → o ≡ none
+none-by none h e = refl
+none-by (some n) h e = absurd (omega (arith, h n refl))
 
-literals-numbered : (domains : List ℕ) (ls : List Literal) → All (λ g. 0 < g .number) (inTurn (literalGrounds domains) ls)
-unfolding literalGrounds
-literals-numbered domains [] = tt
-literals-numbered domains (l ∷ ls) = (omega arith, (omega arith, literals-numbered domains ls))
-
-module _ (t : Tables) where
+module _ (t : Tables) (buffer : List ℕ) where
   no-lengths : 0 ≡ groundNumber (firstGiven (lengthGrounds t)) → firstGiven (lengthGrounds t) ≡ none
-  unfolding lengthGrounds
-  no-lengths l = none-by (lengthGrounds t) (omega arith, tt) l
+  no-lengths = none-by _ (λ n e. elim (length-number t buffer n e) [ inl is ↦ omega arith | inr is ↦ omega arith ])
+
+  no-rules : 0 ≡ groundNumber (firstGiven (tableGrounds edition1 t)) → firstGiven (tableGrounds edition1 t) ≡ none
+  no-rules = none-by _ (λ n e. elim (table-number t buffer n e) [ inl is ↦ omega arith | inr is ↦ omega arith ])
 
   -- no rule refuses the tables
   pub ruled : 0 ≡ groundNumber (firstGiven (lengthGrounds t)) → 0 ≡ groundNumber (firstGiven (tableGrounds edition1 t)) → Ruled t
-  unfolding lengthGrounds tableGrounds
-  ruled l r = record {
-    lengths = not-false _ (none-given (not (lengthsAgree t)) 16 _ (no-lengths l) .0);
-    author = none-by (tableGrounds edition1 t) (omega arith, (omega arith, (omega arith, (omega arith, literals-numbered (t .sizes) (literals (t .literals)))))) r;
-  }
+  unfolding lengthGrounds
+  ruled l r = record { lengths = not-false _ (none-given (not (lengthsAgree t)) 16 _ (no-lengths l) .0); author = no-rules r }
 
 -- ---- how long tables are that no rule refuses
 
@@ -112,7 +103,7 @@ module _ (t : Tables) (buffer : List ℕ) where
 
   pub rules-refused : 0 ≡ groundNumber (firstGiven (lengthGrounds t)) → {n : ℕ} → n ≡ groundNumber (firstGiven (tableGrounds edition1 t)) → (n ≡ 0 → ⊥) → writeCall t buffer ≡ unwritten buffer (byAuthor n)
   unfolding writeCall
-  rules-refused l e h = rw (writeCall, no-lengths t l, given-by (firstGiven (tableGrounds edition1 t)) e h)
+  rules-refused l e h = rw (writeCall, no-lengths t buffer l, given-by (firstGiven (tableGrounds edition1 t)) e h)
 
   module _ (r : Ruled t) {n : ℕ} (e : n ≡ length (sheetOf edition1 (plantOf t))) where
     pub short-refused : length buffer < n → writeCall t buffer ≡ unwritten buffer (byHost 18)

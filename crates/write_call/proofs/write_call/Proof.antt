@@ -37,7 +37,7 @@ agreeing k = sym (k .if1 .left) ∙ k .before .before .length-ground .ensures _ 
 
 -- no rule refuses the tables
 lawful : (k : tie.Else2) → Ruled (tables (k .before .before))
-lawful k = ruled (tables (k .before .before)) (agreeing (k .before)) (sym (k .if2 .left) ∙ k .before .before .author-ground .ensures _)
+lawful k = ruled (tables (k .before .before)) (buffer (k .before .before)) (agreeing (k .before)) (sym (k .if2 .left) ∙ k .before .before .author-ground .ensures _)
 
 -- the sheet is as long as was counted
 module _ (k : tie.After-sheet-bytes) where
