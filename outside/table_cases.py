@@ -84,6 +84,12 @@ def length_refusals():
     tables += [small._replace(literals=small.literals[:length]) for length in (10, 11)]
     # As many sizes as the numbers say, and not as many costs.
     tables += [small._replace(decisions=d, states=3 - d) for d in (0, 1, 3)]
+    # Only one length disagrees, by 1 and by 256.
+    for more in (1, 256):
+        tables.append(small._replace(sizes=small.sizes + bytes([2]) * more))
+        tables.append(small._replace(costs=small.costs + (0,) * more))
+        tables.append(small._replace(counts=small.counts + bytes(more)))
+        tables.append(small._replace(literals=small.literals + bytes(3 * more)))
     return tables + wrapping_lengths(small)
 
 
