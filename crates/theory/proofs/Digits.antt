@@ -71,7 +71,7 @@ digits-low b (suc k) q r h =
     rw e (ap₂ (λ (x : ℕ) (xs : List ℕ). x ∷ xs) top low)
 
 -- the digits of zero are zeros
-digits-zero : (b k : ℕ) → digits b k 0 ≡ replicate k 0
+pub digits-zero : (b k : ℕ) → digits b k 0 ≡ replicate k 0
 unfolding digits
 digits-zero b zero = refl
 digits-zero b (suc k) = ap₂ (λ (x : ℕ) (xs : List ℕ). x ∷ xs) (ap (λ (x : ℕ). x % b) (zero-div (b ^ k)) ∙ zero-mod b) (digits-zero b k)

@@ -51,7 +51,7 @@ module _ {A : Type 0} where
   turns-total (xs ∷ xss) = omega (arith, turns-total xss, length-append xs (inTurn (λ xs. xs) xss))
 
   -- what holds of all members of all lists holds of those of the lists in turn, and the other way round
-  all-turns : (P : A → Type 0) (xss : List (List A)) → All (All P) xss → All P (inTurn (λ xs. xs) xss)
+  pub all-turns : (P : A → Type 0) (xss : List (List A)) → All (All P) xss → All P (inTurn (λ xs. xs) xss)
   all-turns P [] a = tt
   all-turns P (xs ∷ xss) a = all-join P xs (inTurn (λ xs. xs) xss) (a .0) (all-turns P xss (a .1))
 
