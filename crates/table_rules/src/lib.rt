@@ -20,7 +20,7 @@ use limits::VALUES;
 use readings::STATES;
 
 // What bytes add up to, which are as many as a 32-bit number says.
-fn total(bytes: &[u8]) -> usize
+pub fn total(bytes: &[u8]) -> usize
     requires { ⌜ length (now bytes) < 2 ^ 32 ⌝ }
     ensures { λ r. ⌜ (r ≡ totalOf (now (bytes .entry))) × (r ≤ 255 * length (now (bytes .entry))) ⌝ }
 {
