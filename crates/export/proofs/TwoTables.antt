@@ -15,7 +15,7 @@ use Rattle.export.specs.Tables.{WriteCall, ReadCall}
 read-back : (sheet : List ℕ) (t : Tables) (r : ReadCall sheet) → readTables sheet ≡ answered t → (r .returned ≡ 0) × (frontTables (r .after) ≡ t)
 unfolding readExport
 read-back sheet t r h =
-    let e : (0, filledTables t (r .lent)) ≡ (r .returned, r .after) = rw (readExport, h) at (r .equation) in
+    let e : _≡_ {A = ℕ × Tables} (0, filledTables t (r .lent)) (r .returned, r .after) = rw (readExport, h) at (r .equation) in
     (sym (ap (λ (x : ℕ × Tables). x .0) e), ap (λ (x : ℕ × Tables). frontTables (x .1)) (sym e) ∙ front-back t (r .lent) (read-agree sheet t h))
 
 -- what a call of `leading_write` wrote, any call of `leading_read` returns
@@ -28,5 +28,5 @@ pub opened-writes : (sheet : List ℕ) (r : ReadCall sheet) → r .returned ≡ 
 unfolding writeExport
 opened-writes sheet r ok w room =
     let e : writeCall (frontTables (r .after)) (w .buffer) ≡ wrote sheet (w .buffer) = r .right .opened ok .writes (w .buffer) ∙ room-writes sheet (w .buffer) room in
-    let f : (0, filled sheet (w .buffer), length sheet) ≡ (w .returned, w .after, w .bytes) = rw (writeExport, e) at (w .equation) in
+    let f : _≡_ {A = ℕ × List ℕ × ℕ} (0, filled sheet (w .buffer), length sheet) (w .returned, w .after, w .bytes) = rw (writeExport, e) at (w .equation) in
     (sym (ap (λ (x : ℕ × List ℕ × ℕ). x .0) f), sym (ap (λ (x : ℕ × List ℕ × ℕ). x .2) f), sym (ap (λ (x : ℕ × List ℕ × ℕ). x .1) f))

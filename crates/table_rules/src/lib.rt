@@ -3,7 +3,7 @@
 ghost use mathlib.Core.Path.{_≡_};
 ghost use mathlib.Core.Bool.{_&&_};
 ghost use mathlib.Core.List.{List};
-ghost use Prim.Native.Nat.{ℕ, _*_, _≤_, _<_, _^_};
+ghost use Prim.Native.Nat.{ℕ, _*_, _≤_, _^_};
 ghost use lib.Dec.{leb};
 ghost use lib.ListN.{length};
 ghost use Rattle.model.specs.Lists.{allOf, inTurn};
@@ -19,9 +19,9 @@ use limits::LITERALS;
 use limits::VALUES;
 use readings::STATES;
 
-// What bytes add up to, which are as many as a 32-bit number says.
+// What bytes add up to, which are no more than two 32-bit numbers together say.
 pub fn total(bytes: &[u8]) -> usize
-    requires { ⌜ length (now bytes) < 2 ^ 32 ⌝ }
+    requires { ⌜ length (now bytes) ≤ 2 ^ 33 ⌝ }
     ensures { λ r. ⌜ (r ≡ totalOf (now (bytes .entry))) × (r ≤ 255 * length (now (bytes .entry))) ⌝ }
 {
     let mut sum = 0;

@@ -64,7 +64,7 @@ returns-2 c =
     (rules-refused (tables k) (buffer k) (agreeing (c .before)) (k .author-ground .ensures _) (c .if2 .taken), tt)
 
 sheet-bytes-requires : tie.Need-sheet-bytes-requires
-sheet-bytes-requires c κs = let m = most (tables (c .before .before)) (lawful c) in (m .sizes, m .costs, m .counts, m .literals)
+sheet-bytes-requires c κs = let k = c .before .before in let m = most (tables k) (lawful c) (costs-below k) in (m .sizes, m .costs, m .counts, m .literals)
 
 returns-3 : tie.Need-returns-3
 returns-3 c = let k = c .before in (short-refused (tables (place k)) (buffer (place k)) (lawful (k .before)) (long k) (c .if3 .taken), tt)
@@ -79,7 +79,7 @@ write-requires : tie.Need-write-requires
 write-requires c κs = let k = c .before .before in (lawful (k .before), length-take-le _ _ (c .before .if3 .left) ∙ long k)
 
 cast-t24 : tie.Need-cast-t24
-cast-t24 c = let k = c .before .before .before .before .before in let m = most (tables (place k)) (lawful (k .before)) in record { fits = omega (arith, k .sheet-bytes .ensures, m .sizes, m .costs, m .counts, m .literals) }
+cast-t24 c = let k = c .before .before .before .before .before in let m = most (tables (place k)) (lawful (k .before)) (costs-below (place k)) in record { fits = omega (arith, k .sheet-bytes .ensures, m .sizes, m .costs, m .counts, m .literals) }
 
 same-length : tie.Need-same-length
 same-length c = search needs
