@@ -120,7 +120,7 @@ pub fn three(sheet: &[u8], place: usize, a: usize, b: usize, c: usize) -> Fields
     }
 }
 
-// Sets a byte of the sheet: the bits that `keep` has stay, the others are those of `field`. Past the end there is none.
+// Sets a byte of the sheet: of its bits those in `keep` stay, and those in `field` are set. Past the end there is none.
 fn set_byte(sheet: &mut [u8], i: usize, keep: u32, field: u32)
     ensures { λ _. ⌜ now (sheet .exit) ≡ set (now (sheet .entry)) i (blended (getD (now (sheet .entry)) i 0) keep field % 256) ⌝ }
 {
@@ -129,7 +129,8 @@ fn set_byte(sheet: &mut [u8], i: usize, keep: u32, field: u32)
     }
 }
 
-// Sets the three bytes around a place in the same way. Byte by byte, since a byte that was just set is at hand soonest by itself.
+// Sets the three bytes around a place so. Each by itself: the field before has just set one of them, and a word of all three
+// would wait for it longer.
 fn set_word(sheet: &mut [u8], place: usize, keep: u32, field: u32)
     ensures { λ _. ⌜ now (sheet .exit) ≡ sets (now (sheet .entry)) (place / 8) (digits 256 3 (blended (number 256 3 (drop (place / 8) (now (sheet .entry)))) keep field)) ⌝ }
 {

@@ -1,6 +1,6 @@
 -- `write_sheet::filler` meets its contract: a field of the number 0 is zero bits. Assumes nothing.
 use borrow.Author.Needs.{needs}
-use Prim.Native.Nat.{_-_, _%_, _^_}
+use Prim.Native.Nat.{_-_, _%_}
 use native.Mathlib.Omega.{arith}
 use lib.Pow.{pow-pos}
 use Rattle.theory.proofs.Digits.{digits-zero}
@@ -11,7 +11,7 @@ sub-put : tie.Need-sub-put
 sub-put c = search needs
 
 put-requires : tie.Need-put-requires
-put-requires c κs = (omega arith, pow-pos ((8 - c .before .before .args .place % 8) % 8), omega arith, omega arith)
+put-requires c κs = (omega arith, pow-pos _, omega arith, omega arith)
 
 same-length : tie.Need-same-length
 same-length c = search needs
