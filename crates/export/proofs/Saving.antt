@@ -1,9 +1,11 @@
 -- The exports of the writing and the reading, from the answers of the calls. Assumes nothing.
 use mathlib.Core.Path.{_≡_, refl, sym, ap, _∙_}
 use mathlib.Core.Logic.{inl, inr}
-use mathlib.Core.List.{List}
-use Prim.Native.Nat.{ℕ}
+use mathlib.Core.List.{List, [], _∷_}
+use Prim.Native.Nat.{ℕ, _≤_}
 use native.Mathlib.Omega.{arith}
+use lib.ListN.{length, set}
+use Rattle.model.specs.Lists.{filled}
 use Rattle.model.specs.Sheet.{Plant, Read, got, edition1, readSheet}
 use Rattle.model.specs.Calls.{Refusal, byHost, byAuthor, refusalNumber, Answered, refused, answered}
 use Rattle.model.specs.Tables.{Tables, tablesOf}
@@ -17,6 +19,11 @@ use Rattle.refusal.specs.Refusal.{refusalOf, writtenOf}
 use Rattle.read_call.specs.declared.Opened.{Opened}
 use Rattle.read_call.specs.Lent.{Answers}
 use Rattle.export.specs.Tables.{WriteTells, ReadTells}
+
+-- one store fills the first place
+pub one-written : (n : ℕ) (l : List ℕ) → 1 ≤ length l → set l 0 n ≡ filled (n ∷ []) l
+one-written n [] h = absurd (omega arith)
+one-written n (x ∷ l) h = refl
 
 -- no refusal of a writing has the number 0
 numbered : (r : Refusal) → TableNumber r → refusalNumber r ≡ 0 → ⊥
@@ -62,9 +69,9 @@ module _ (sheet : List ℕ) (lent after : Tables) where
   unfolding readExport
   read-exported n g k h = (rw (readExport, g, k), rw g (read-tells (readTables sheet) refl h))
 
-  -- the number that is returned for an answer
-  pub refused-returns : (q : Opened) → Answers q (readTables sheet) → {r : Whose} → q ≡ Opened.Refused r → refusalNumber (refusalOf r) ≡ returnedBy (readTables sheet)
-  refused-returns q h {r} f = let h : readTables sheet ≡ refused (refusalOf r) = rw f at h in rw h
+-- the number that is returned for an answer
+pub refused-returns : (sheet : List ℕ) (q : Opened) → Answers q (readTables sheet) → {r : Whose} → q ≡ Opened.Refused r → refusalNumber (refusalOf r) ≡ returnedBy (readTables sheet)
+refused-returns sheet q h {r} f = let h : readTables sheet ≡ refused (refusalOf r) = rw f at h in rw h
 
-  pub tables-returns : (q : Opened) → Answers q (readTables sheet) → q ≡ Opened.Tables → 0 ≡ returnedBy (readTables sheet)
-  tables-returns q h f = let h : (t : Tables) × (readTables sheet ≡ answered t) = rw f at h in rw (h .1)
+pub tables-returns : (sheet : List ℕ) (q : Opened) → Answers q (readTables sheet) → q ≡ Opened.Tables → 0 ≡ returnedBy (readTables sheet)
+tables-returns sheet q h f = let h : (t : Tables) × (readTables sheet ≡ answered t) = rw f at h in rw (h .1)

@@ -183,6 +183,14 @@ pub extern "C" fn leading_reduce(
     }
 }
 
+// Writes one word.
+fn tell(word: &mut [u32], n: u32)
+    requires { ⌜ 1 ≤ length (now word) ⌝ }
+    ensures { λ _. ⌜ now (word .exit) ≡ filled (n ∷ []) (now (word .entry)) ⌝ }
+{
+    word[0] = n;
+}
+
 // The writing call: the sheet of the tables goes to the front of `sheet`, and the number of its bytes to the word of `bytes`.
 #[no_mangle]
 pub extern "C" fn leading_write(
@@ -211,7 +219,7 @@ pub extern "C" fn leading_write(
     ) {
         Written::Refused(r) => refusal::number(r),
         Written::Bytes(n) => {
-            bytes[0] = n;
+            tell(bytes, n);
             0
         }
     }

@@ -1,0 +1,59 @@
+-- `leading_write` meets its contract: a refusal leaves the word, and the number of bytes is written to it. Assumes nothing.
+use mathlib.Core.Path.{refl, ap}
+use mathlib.Core.List.{List}
+use Prim.Native.Nat.{ℕ}
+use lib.ListN.{getD}
+use borrow.Author.Needs.{needs}
+use Rattle.theory.specs.Tables.{tablesGiven}
+use Rattle.export.proofs.Saving.{write-exported}
+use Rattle.export.proofs.leading_write.Statement.{statement}
+use Rattle.export.proofs.leading_write.Tie as tie
+
+write-call-requires : tie.Need-write-call-requires
+write-call-requires c κs = search needs
+
+enum-known-r : tie.Need-enum-known-r
+enum-known-r c = search needs
+
+number-requires : tie.Need-number-requires
+number-requires c κs = search needs
+
+enum-known-n : tie.Need-enum-known-n
+enum-known-n c = search needs
+
+tell-requires : tie.Need-tell-requires
+tell-requires c κs = search needs
+
+same-length : tie.Need-same-length
+same-length c = search needs
+
+returns : tie.Need-returns
+returns c =
+    let called = c .before .before .before .before .before .before in
+    let s = c .before .before .before .before .before .before .before .before .before .before .before .before .before .args in
+    write-exported (tablesGiven (s .decisions) (s .states) (s .clauses) (s .sizes .now) (s .costs .now) (s .counts .now) (s .literals .now)) (s .sheet .now) (getD (s .bytes .now) 0 0) _
+    (called .write-call .result) _ (c .before .before .r .given .1) (called .write-call .ensures .0) (called .write-call .ensures .1) (c .number .ensures) refl
+
+same-length-2 : tie.Need-same-length-2
+same-length-2 c = search needs
+
+returns-2 : tie.Need-returns-2
+returns-2 c =
+    let called = c .before .before .before .before .before .before .before in
+    let s = c .before .before .before .before .before .before .before .before .before .before .before .before .before .before .args in
+    write-exported (tablesGiven (s .decisions) (s .states) (s .clauses) (s .sizes .now) (s .costs .now) (s .counts .now) (s .literals .now)) (s .sheet .now) (getD (s .bytes .now) 0 0) _
+    (called .write-call .result) _ (c .before .before .before .n .given .1) (called .write-call .ensures .0) (called .write-call .ensures .1) refl (ap (λ (l : List ℕ). getD l 0 0) (c .tell .ensures))
+
+pub leading-write-spec : {M : Type 1} → statement M
+leading-write-spec =
+    tie.close
+    (tie.spec
+    write-call-requires
+    enum-known-r
+    number-requires
+    enum-known-n
+    tell-requires
+    same-length
+    returns
+    same-length-2
+    returns-2)
