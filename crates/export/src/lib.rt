@@ -183,12 +183,13 @@ pub extern "C" fn leading_reduce(
     }
 }
 
-// Writes one word.
-fn tell(word: &mut [u32], n: u32)
+// Writes the number of bytes to its word.
+fn told(word: &mut [u32], n: u32) -> u32
     requires { ⌜ 1 ≤ length (now word) ⌝ }
-    ensures { λ _. ⌜ now (word .exit) ≡ filled (n ∷ []) (now (word .entry)) ⌝ }
+    ensures { λ r. ⌜ (r ≡ 0) × (now (word .exit) ≡ filled (n ∷ []) (now (word .entry))) ⌝ }
 {
     word[0] = n;
+    0
 }
 
 // The writing call: the sheet of the tables goes to the front of `sheet`, and the number of its bytes to the word of `bytes`.
@@ -218,10 +219,7 @@ pub extern "C" fn leading_write(
         clauses,
     ) {
         Written::Refused(r) => refusal::number(r),
-        Written::Bytes(n) => {
-            tell(bytes, n);
-            0
-        }
+        Written::Bytes(n) => told(bytes, n),
     }
 }
 

@@ -18,6 +18,7 @@ use limits::wide;
 use readings::COST_ENTRIES;
 use readings::COUNT_ENTRIES;
 use readings::LITERAL_BYTES;
+use readings::NUMBERS;
 use readings::SIZE_ENTRIES;
 use refusal::Refusal;
 use table_rules::total;
@@ -94,7 +95,7 @@ fn read_through(
     costs: &mut [u16; COST_ENTRIES],
     counts: &mut [u8; COUNT_ENTRIES],
     lits: &mut [u8; LITERAL_BYTES],
-    numbers: &mut [u32; 3],
+    numbers: &mut [u32; NUMBERS],
 ) -> Opened
     ensures { λ r. ⌜ (let before : Tables = tablesLent (now (sizes .entry)) (now (costs .entry)) (now (counts .entry)) (now (lits .entry)) (now (numbers .entry)) in
         let after : Tables = tablesLent (now (sizes .exit)) (now (costs .exit)) (now (counts .exit)) (now (lits .exit)) (now (numbers .exit)) in
@@ -120,7 +121,7 @@ pub fn read_call(
     costs: &mut [u16; COST_ENTRIES],
     counts: &mut [u8; COUNT_ENTRIES],
     lits: &mut [u8; LITERAL_BYTES],
-    numbers: &mut [u32; 3],
+    numbers: &mut [u32; NUMBERS],
 ) -> Opened
     ensures equation { λ r. ⌜ (let before : Tables = tablesLent (now (sizes .entry)) (now (costs .entry)) (now (counts .entry)) (now (lits .entry)) (now (numbers .entry)) in
         let after : Tables = tablesLent (now (sizes .exit)) (now (costs .exit)) (now (counts .exit)) (now (lits .exit)) (now (numbers .exit)) in

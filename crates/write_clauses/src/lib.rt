@@ -9,6 +9,7 @@ ghost use Rattle.theory.specs.Longest.{literalBits};
 ghost use Rattle.theory.specs.Puts.{Puts, bitsOf};
 ghost use Rattle.readings.specs.Lengths.{clauseBytes};
 ghost use Rattle.write_clauses.specs.Narrow.{Narrow};
+use readings::COUNT_BITS;
 use readings::LITERAL_BITS;
 
 // What a one of a literal's variable and of its sign counts in the literal's field.
@@ -38,7 +39,7 @@ fn clause(sheet: &mut [u8], place: usize, lits: &[u8]) -> usize
     requires { ⌜ (length (now lits) ≤ clauseBytes) × All Narrow (literals (now lits)) × (place + length (clauseWritten (literals (now lits))) ≤ 8 * length (now sheet)) × (8 * length (now sheet) < 2 ^ 64) ⌝ }
     ensures { λ r. ⌜ Puts place (clauseWritten (literals (now (lits .entry)))) (bitsOf (now (sheet .entry))) r (bitsOf (now (sheet .exit))) ⌝ }
 {
-    let mut at = bits::put(sheet, place, 4, literal_count(lits.len()));
+    let mut at = bits::put(sheet, place, COUNT_BITS, literal_count(lits.len()));
     let mut i = 0;
     while i + 2 < lits.len() {
         at = literal(sheet, at, lits[i], lits[i + 1], lits[i + 2]);

@@ -6,26 +6,24 @@ ghost use lib.ListN.{length, replicate};
 ghost use Rattle.model.specs.Digits.{digits};
 ghost use Rattle.model.specs.Sheet.{edition1};
 ghost use Rattle.model.specs.Tables.{plantOf, sheetOf};
+ghost use Rattle.theory.specs.Longest.{headBits, literalBits};
 ghost use Rattle.theory.specs.Puts.{Puts, bitsOf};
 ghost use Rattle.theory.specs.Tables.{tablesGiven};
+ghost use Rattle.readings.specs.Lengths.{sizeEntries, costEntries, countEntries, literalBytes};
 ghost use Rattle.write_sheet.specs.Ruled.{Ruled};
+use readings::COST_BITS;
+use readings::COUNT_BITS;
 use readings::HEAD_BITS;
 use readings::LITERAL_BITS;
+use readings::SIZE_BITS;
 
 // The edition that is written.
 const EDITION: u32 = 1;
 
-// Bits of a domain size, of a cost and of a literal count.
-const SIZE_BITS: usize = 4;
-
-const COST_BITS: usize = 16;
-
-const COUNT_BITS: usize = 4;
-
 // The bytes of the sheet that is written of tables of these lengths: the bits of all fields, rounded up.
 pub fn sheet_bytes(sizes: usize, costs: usize, counts: usize, lits: usize) -> usize
-    requires { ⌜ (sizes ≤ 48) × (costs ≤ 256) × (counts ≤ 512) × (lits ≤ 23040) ⌝ }
-    ensures { λ r. ⌜ r ≡ (29 + 4 * sizes + 16 * costs + 4 * counts + 11 * (lits / 3) + 7) / 8 ⌝ }
+    requires { ⌜ (sizes ≤ sizeEntries) × (costs ≤ costEntries) × (counts ≤ countEntries) × (lits ≤ literalBytes) ⌝ }
+    ensures { λ r. ⌜ r ≡ (headBits + 4 * sizes + 16 * costs + 4 * counts + literalBits * (lits / 3) + 7) / 8 ⌝ }
 {
     let bits = HEAD_BITS
         + SIZE_BITS * sizes
@@ -37,7 +35,7 @@ pub fn sheet_bytes(sizes: usize, costs: usize, counts: usize, lits: usize) -> us
 
 // Puts the edition and the three numbers at the front.
 fn head(sheet: &mut [u8], d: u32, s: u32, c: u32) -> usize
-    requires { ⌜ (d < 2 ^ 5) × (s < 2 ^ 6) × (c < 2 ^ 10) × (29 ≤ 8 * length (now sheet)) ⌝ }
+    requires { ⌜ (d < 2 ^ 5) × (s < 2 ^ 6) × (c < 2 ^ 10) × (headBits ≤ 8 * length (now sheet)) ⌝ }
     ensures { λ r. ⌜ Puts 0 (digits 2 8 1 ++ (digits 2 5 d ++ (digits 2 6 s ++ digits 2 10 c))) (bitsOf (now (sheet .entry))) r (bitsOf (now (sheet .exit))) ⌝ }
 {
     let mut at = bits::put(sheet, 0, 8, EDITION);

@@ -8,11 +8,8 @@ ghost use Rattle.model.specs.Sheet.{edition1};
 ghost use Rattle.model.specs.Tables.{total, costRows, decisionWritten, stateWritten};
 ghost use Rattle.theory.specs.Plant.{Sized};
 ghost use Rattle.theory.specs.Puts.{Puts, bitsOf};
-
-// Bits of a domain size less 1, and of a cost.
-const SIZE_BITS: usize = 4;
-
-const COST_BITS: usize = 16;
+use readings::COST_BITS;
+use readings::SIZE_BITS;
 
 // Puts one decision variable: its domain size less 1, then its costs.
 fn row(sheet: &mut [u8], place: usize, costs: &[u16]) -> usize

@@ -1,4 +1,4 @@
--- `leading_write` meets its contract: a refusal leaves the word, and the number of bytes is written to it. Assumes nothing.
+-- `leading_write` meets its contract: a refusal leaves the word, and otherwise it is told the number of bytes. Assumes nothing.
 use mathlib.Core.Path.{refl, ap}
 use mathlib.Core.List.{List}
 use Prim.Native.Nat.{ℕ}
@@ -21,8 +21,8 @@ number-requires c κs = search needs
 enum-known-n : tie.Need-enum-known-n
 enum-known-n c = search needs
 
-tell-requires : tie.Need-tell-requires
-tell-requires c κs = search needs
+told-requires : tie.Need-told-requires
+told-requires c κs = search needs
 
 same-length : tie.Need-same-length
 same-length c = search needs
@@ -42,7 +42,7 @@ returns-2 c =
     let called = c .before .before .before .before .before .before .before in
     let s = c .before .before .before .before .before .before .before .before .before .before .before .before .before .before .args in
     write-exported (tablesGiven (s .decisions) (s .states) (s .clauses) (s .sizes .now) (s .costs .now) (s .counts .now) (s .literals .now)) (s .sheet .now) (getD (s .bytes .now) 0 0) _
-    (called .write-call .result) _ (c .before .before .before .n .given .1) (called .write-call .ensures .0) (called .write-call .ensures .1) refl (ap (λ (l : List ℕ). getD l 0 0) (c .tell .ensures))
+    (called .write-call .result) _ (c .before .before .before .n .given .1) (called .write-call .ensures .0) (called .write-call .ensures .1) (c .told .ensures .0) (ap (λ (l : List ℕ). getD l 0 0) (c .told .ensures .1))
 
 pub leading-write-spec : {M : Type 1} → statement M
 leading-write-spec =
@@ -52,7 +52,7 @@ leading-write-spec =
     enum-known-r
     number-requires
     enum-known-n
-    tell-requires
+    told-requires
     same-length
     returns
     same-length-2
