@@ -130,17 +130,17 @@ uint32_t __wrap_leading_reduce(REDUCED)
     return refused;
 }
 
-/* Of tables whose lengths disagree: 17 where an entry does not fit. */
+/* Of tables whose lengths disagree: 17 where a size or a count is out of its range. */
 static uint32_t entries_first(const uint8_t *sizes, size_t sizes_len, const uint8_t *counts,
                               size_t counts_len)
 {
     for (size_t i = 0; i < sizes_len; i++)
         if (sizes[i] < 1 || sizes[i] > LEADING_VALUES_MOST)
-            return 17;
+            return LEADING_TABLES_RANGES;
     for (size_t i = 0; i < counts_len; i++)
         if (counts[i] > LEADING_LITERALS_MOST)
-            return 17;
-    return 16;
+            return LEADING_TABLES_RANGES;
+    return LEADING_BAD_TABLES;
 }
 
 static void reverse_bits(uint8_t *bytes, size_t n)
@@ -165,7 +165,7 @@ uint32_t __wrap_leading_write(WRITTEN)
                                             decisions, states, clauses, written);
     if (IMPOSTOR == 21 && refused == LEADING_SHEET_VARIABLE) /* 10 told as 11 */
         return LEADING_SHEET_VALUE;
-    if (IMPOSTOR == 22 && refused == 16) /* lengths looked at after the entries */
+    if (IMPOSTOR == 22 && refused == LEADING_BAD_TABLES) /* 16 decided after 17 */
         return entries_first(sizes, sizes_len, counts, counts_len);
     if (IMPOSTOR == 23 && refused && sheet_len > 0) /* a refusal writes */
         sheet[0] = 1;
