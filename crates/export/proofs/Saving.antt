@@ -1,5 +1,5 @@
 -- The exports of the writing and the reading, from the answers of the calls. Assumes nothing.
-use mathlib.Core.Path.{_≡_, refl, sym, ap, _∙_}
+use mathlib.Core.Path.{_≡_, refl, sym, ap}
 use mathlib.Core.Logic.{inl, inr}
 use mathlib.Core.List.{List, [], _∷_}
 use Prim.Native.Nat.{ℕ, _≤_}
@@ -8,7 +8,7 @@ use lib.ListN.{length, set}
 use Rattle.model.specs.Lists.{filled}
 use Rattle.model.specs.Sheet.{Plant, Read, got, edition1, readSheet}
 use Rattle.model.specs.Calls.{Refusal, byHost, byAuthor, refusalNumber, Answered, refused, answered}
-use Rattle.model.specs.Tables.{Tables, tablesOf}
+use Rattle.model.specs.Tables.{Tables}
 use Rattle.model.specs.TableCalls.{Wrote, writeCall, readTables, tablesAfter, returnedBy, writtenWord, writeExport, readExport}
 use Rattle.theory.specs.Refusals.{TableNumber}
 use Rattle.theory.specs.WriteRead.{WritePromises, ReadPromises}

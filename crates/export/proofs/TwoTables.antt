@@ -1,12 +1,12 @@
 -- A plant editor that saves and opens: reading what a call of `leading_write` wrote returns the tables, and writing what a call of `leading_read` gave returns the sheet's bytes, whatever else the calls were lent. Assumes nothing.
-use mathlib.Core.Path.{_≡_, refl, sym, ap, _∙_}
+use mathlib.Core.Path.{_≡_, sym, ap, _∙_}
 use mathlib.Core.List.{List}
 use Prim.Native.Nat.{ℕ, _≤_}
 use lib.ListN.{length, take}
 use Rattle.model.specs.Lists.{filled}
 use Rattle.model.specs.Calls.{answered}
 use Rattle.model.specs.Tables.{Tables}
-use Rattle.model.specs.TableCalls.{Wrote, wrote, writeCall, writeSheet, readTables, filledTables, frontTables, returnedBy, writtenWord, tablesAfter, writeExport, readExport}
+use Rattle.model.specs.TableCalls.{wrote, writeCall, readTables, filledTables, frontTables, writeExport, readExport}
 use Rattle.theory.proofs.PlantTables.{front-back}
 use Rattle.theory.proofs.WriteRead.{read-agree, room-writes}
 use Rattle.export.specs.Tables.{WriteCall, ReadCall}

@@ -5,8 +5,8 @@ use Prim.Native.Nat.{ℕ}
 use lib.ListN.{length, replicate}
 use Rattle.model.specs.Digits.{number, digits}
 use Rattle.model.specs.Sheet.{bitAt, bitsAt, then, many, field, edition1, decisionsAllowed, readDecision, readState, readLiteral, readClause, readFiller, readEnd, readBody, readSheet}
-use Rattle.model.specs.Calls.{Refusal, byHost, byAuthor, firstGiven, Answered, refused, answered}
-use Rattle.model.specs.Tables.{Tables, total, costRows, literals, clauses, plantOf, plantWritten, packed, sheetOf}
+use Rattle.model.specs.Calls.{Refusal, byHost, byAuthor, firstGiven, refused}
+use Rattle.model.specs.Tables.{Tables, total, costRows, literals, clauses, plantWritten, packed, sheetOf}
 use Rattle.model.specs.TableCalls.{Wrote, unwritten, wrote, lengthsAgree, fieldsFit, lengthGrounds, literalGrounds, tableGrounds, roomGrounds, writeSheet, writeCall, readTables, frontTables, writeExport, readExport}
 use Rattle.model.specs.Examples.{tail, small, damaged}
 use Rattle.model.specs.Edges.{oneVariable, oneValue}

@@ -6,14 +6,14 @@ use native.Mathlib.Omega.{arith}
 use native.Mathlib.Nat.{zero-add}
 use native.Mathlib.Numerals.{add-one}
 use native.Mathlib.Decide.{decLt}
-use lib.ListN.{length, getD, take, drop, replicate, length-append, length-drop, take-append-drop, drop-of-length-le, List·getD-append}
+use lib.ListN.{length, getD, take, drop, replicate, length-drop, take-append-drop, drop-of-length-le, List·getD-append}
 use lib.Seq.{length-take-le, take-at, drop-at, drop-cons, drop-nil, getD-drop, getD-append-add}
 use Rattle.model.specs.Digits.{number, digits}
 use Rattle.model.specs.Sheet.{bitAt, bitsAt}
 use Rattle.model.specs.Tables.{packed}
 use Rattle.theory.specs.Digits.{Below}
 use Rattle.theory.specs.Puts.{written, bitsOf}
-use Rattle.theory.proofs.Lists.{all-join, all-left, in-turn-join}
+use Rattle.theory.proofs.Lists.{all-join, all-left, in-turn-join, all-any, in-turn-length}
 use Rattle.theory.proofs.Digits.{digits-length, digits-below, digits-made, number-below, number-digits, number-first, number-same}
 use Rattle.theory.proofs.Fields.{below-drop}
 use Rattle.theory.proofs.Puts.{drop-past}
@@ -22,8 +22,7 @@ use Rattle.theory.proofs.Written.{zeros-behind, below-take, below-in-tu
 -- ---- the bits of bytes
 
 pub bits-length : (bytes : List ℕ) → length (bitsOf bytes) ≡ 8 * length bytes
-bits-length [] = refl
-bits-length (b ∷ bytes) = omega (arith, length-append (digits 2 8 b) (bitsOf bytes), digits-length 2 8 b, bits-length bytes)
+bits-length bytes = in-turn-length (digits 2 8) 8 bytes (all-any (digits-length 2 8) bytes)
 
 pub bits-below : (bytes : List ℕ) → Below 2 (bitsOf bytes)
 bits-below bytes = below-in-turn (digits 2 8) (λ b. digits-below 2 8 b (omega arith)) bytes

@@ -21,7 +21,7 @@ use Rattle.theory.specs.Longest.{headBits, literalBits}
 use Rattle.theory.specs.Plant.{Sized, Present, Accepted}
 use Rattle.theory.specs.Tables.{tablesGiven}
 use Rattle.theory.proofs.Digits.{digits-length}
-use Rattle.theory.proofs.Lists.{all-map, all-join, all-left, all-right, all-zip, all-image, and-both}
+use Rattle.theory.proofs.Lists.{all-map, all-join, all-left, all-right, all-zip, all-any, all-image, and-both, in-turn-length}
 use Rattle.theory.proofs.Sheet.{allowed-most}
 use Rattle.theory.proofs.TableClauses.{clauses-length}
 use Rattle.theory.proofs.Written.{written-length}
@@ -31,8 +31,7 @@ use Rattle.theory.proofs.Written.{written-length}
 module _ {A B : Type 0} where
   -- each member gives w
   turn-length : (give : A → List B) (w : ℕ) → ((x : A) → length (give x) ≡ w) → (xs : List A) → length (inTurn give xs) ≡ w * length xs
-  turn-length give w h [] = sym (mul-zero w)
-  turn-length give w h (x ∷ xs) = omega (arith, h x, turn-length give w h xs, length-append (give x) (inTurn give xs), mul-suc w (length xs))
+  turn-length give w h xs = in-turn-length give w xs (all-any h xs)
 
   -- each list gives n, and w for each of its members
   turns-length : (give : List A → List B) (n w : ℕ) → ((xs : List A) → length (give xs) ≡ n + w * length xs)

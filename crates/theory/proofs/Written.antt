@@ -1,10 +1,10 @@
 -- Every plant within the rules has a sheet that is read as it, and one of these sheets has the longest's length. Assumes nothing.
-use mathlib.Core.Path.{_≡_, refl, sym, ap}
+use mathlib.Core.Path.{_≡_, refl, ap}
 use mathlib.Core.Bool.{Bool, true, false}
 use mathlib.Core.List.{List, [], _∷_, _++_, map}
 use Prim.Native.Nat.{ℕ, zero, suc, _+_, _-_, _*_, _/_, _%_, _^_, _≤_, _<_}
 use native.Mathlib.Omega.{arith}
-use native.Mathlib.Nat.{zero-mul, suc-mul, min-le-left, add-zero}
+use native.Mathlib.Nat.{mul-comm, min-le-left, add-zero}
 use native.Mathlib.Decide.{decLt}
 use lib.Dec.{ltb, leb, eqb}
 use lib.ListN.{length, getD, take, drop, replicate, length-append, length-take, length-map, length-replicate, List·getD-eq-default}
@@ -23,7 +23,7 @@ use Rattle.theory.specs.Plant.{Sized, Present, Accepted}
 use Rattle.theory.specs.Written.{firstLiteral, fullPlant, largestPlant}
 use Rattle.theory.proofs.Digits.{digits-length, digits-below, digits-number, number-digits}
 use Rattle.theory.proofs.Fields.{below-drop}
-use Rattle.theory.proofs.Lists.{all-map, all-join, all-zip, all-image, all-at}
+use Rattle.theory.proofs.Lists.{all-map, all-join, all-zip, all-image, all-at, in-turn-length}
 
 -- ---- bytes and their bits
 
@@ -297,13 +297,13 @@ module _ (e : Edition) (p : Plant) where
 
 -- ---- the longest sheet is one
 
-in-turn-length : {A : Type 0} (bits : A → List ℕ) (n w : ℕ) (a : A) → length (bits a) ≡ w → length (inTurn bits (replicate n a)) ≡ n * w
-in-turn-length bits zero w a h = sym (zero-mul w)
-in-turn-length bits (suc n) w a h = omega (arith, length-append (bits a) (inTurn bits (replicate n a)), in-turn-length bits n w a h, suc-mul n w)
-
 all-replicate : {A : Type 0} (P : A → Type 0) (n : ℕ) (a : A) → P a → All P (replicate n a)
 all-replicate P zero a h = tt
 all-replicate P (suc n) a h = (h, all-replicate P n a h)
+
+-- what n members alike give
+alike-length : {A : Type 0} (bits : A → List ℕ) (n w : ℕ) (a : A) → length (bits a) ≡ w → length (inTurn bits (replicate n a)) ≡ n * w
+alike-length bits n w a h = omega (arith, in-turn-length bits w (replicate n a) (all-replicate (λ x. length (bits x) ≡ w) n a h), mul-comm w n, ap (λ (m : ℕ). w * m) (length-replicate n a))
 
 -- the first literal is present where there is a decision variable of sixteen values
 first-present : (n : ℕ) (rest : List ℕ) → 1 ≤ n → Present (map length (replicate n (replicate {A = ℕ} 16 0)) ++ rest) firstLiteral
@@ -329,7 +329,7 @@ module _ (e : Edition) where
   full-allowed d s c one most = rw (length-replicate d (replicate {A = ℕ} 16 0), decisionsAllowed, le-leb 1 d one, le-leb d (e .most) most)
 
   row-bits : length (decisionWritten e (replicate 16 0)) ≡ decisionBits e
-  row-bits = omega (arith, length-append (digits 2 4 15) (inTurn (digits 2 (e .costBits)) (replicate 16 0)), digits-length 2 4 15, in-turn-length (digits 2 (e .costBits)) 16 (e .costBits) 0 (digits-length 2 (e .costBits) 0))
+  row-bits = omega (arith, length-append (digits 2 4 15) (inTurn (digits 2 (e .costBits)) (replicate 16 0)), digits-length 2 4 15, alike-length (digits 2 (e .costBits)) 16 (e .costBits) 0 (digits-length 2 (e .costBits) 0))
 
   clause-bits : length (clauseWritten (replicate 15 firstLiteral)) ≡ clauseBits
   unfolding digits
@@ -337,7 +337,7 @@ module _ (e : Edition) where
 
   full-bits : (d s c : ℕ) → length (plantWritten e (fullPlant d s c)) ≡ headBits + d * decisionBits e + s * stateBits + c * clauseBits
   unfolding fullPlant
-  full-bits d s c = omega (arith, written-length e (fullPlant d s c), in-turn-length (decisionWritten e) d (decisionBits e) (replicate 16 0) row-bits, in-turn-length stateWritten s stateBits 1 (digits-length 2 4 0), in-turn-length clauseWritten c clauseBits (replicate 15 firstLiteral) clause-bits)
+  full-bits d s c = omega (arith, written-length e (fullPlant d s c), alike-length (decisionWritten e) d (decisionBits e) (replicate 16 0) row-bits, alike-length stateWritten s stateBits 1 (digits-length 2 4 0), alike-length clauseWritten c clauseBits (replicate 15 firstLiteral) clause-bits)
 
   -- a sheet of the longest's length is accepted
   pub longest-attained : e .number < 2 ^ 8 → 1 ≤ e .most → e .most < 2 ^ 5
