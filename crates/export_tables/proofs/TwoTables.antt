@@ -9,7 +9,7 @@ use Rattle.model.specs.Tables.{Tables}
 use Rattle.model.specs.TableCalls.{wrote, writeCall, readTables, filledTables, frontTables, writeExport, readExport}
 use Rattle.theory.proofs.PlantTables.{front-back}
 use Rattle.theory.proofs.WriteRead.{read-agree, room-writes}
-use Rattle.export.specs.Tables.{WriteCall, ReadCall}
+use Rattle.export_tables.specs.Exports.{WriteCall, ReadCall}
 
 -- a reading that was not refused: what it returns, and the tables at the front of those that were lent
 read-back : (sheet : List ℕ) (t : Tables) (r : ReadCall sheet) → readTables sheet ≡ answered t → (r .returned ≡ 0) × (frontTables (r .after) ≡ t)

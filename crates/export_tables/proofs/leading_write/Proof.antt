@@ -5,9 +5,9 @@ use Prim.Native.Nat.{ℕ}
 use lib.ListN.{getD}
 use borrow.Author.Needs.{needs}
 use Rattle.theory.specs.Tables.{tablesGiven}
-use Rattle.export.proofs.Saving.{write-exported}
-use Rattle.export.proofs.leading_write.Statement.{statement}
-use Rattle.export.proofs.leading_write.Tie as tie
+use Rattle.export_tables.proofs.Saving.{write-exported}
+use Rattle.export_tables.proofs.leading_write.Statement.{statement}
+use Rattle.export_tables.proofs.leading_write.Tie as tie
 
 write-call-requires : tie.Need-write-call-requires
 write-call-requires c κs = search needs

@@ -18,7 +18,7 @@ use Rattle.refusal.specs.declared.Written.{Written}
 use Rattle.refusal.specs.Refusal.{refusalOf, writtenOf}
 use Rattle.read_call.specs.declared.Opened.{Opened}
 use Rattle.read_call.specs.Lent.{Answers}
-use Rattle.export.specs.Tables.{WriteTells, ReadTells}
+use Rattle.export_tables.specs.Exports.{WriteTells, ReadTells}
 
 -- one store fills the first place
 pub one-written : (n : ℕ) (l : List ℕ) → 1 ≤ length l → set l 0 n ≡ filled (n ∷ []) l

@@ -2,9 +2,9 @@
 use mathlib.Core.Path.{_∙_}
 use borrow.Author.Needs.{needs}
 use Rattle.read_call.specs.Lent.{tablesLent}
-use Rattle.export.proofs.Saving.{read-exported, refused-returns, tables-returns}
-use Rattle.export.proofs.leading_read.Statement.{statement}
-use Rattle.export.proofs.leading_read.Tie as tie
+use Rattle.export_tables.proofs.Saving.{read-exported, refused-returns, tables-returns}
+use Rattle.export_tables.proofs.leading_read.Statement.{statement}
+use Rattle.export_tables.proofs.leading_read.Tie as tie
 
 read-call-requires : tie.Need-read-call-requires
 read-call-requires c κs = search needs

@@ -1,9 +1,9 @@
--- `export::told` meets its contract: one store fills the first place. Assumes nothing.
+-- `export_tables::told` meets its contract: one store fills the first place. Assumes nothing.
 use mathlib.Core.Path.{refl}
 use borrow.Author.Needs.{needs}
-use Rattle.export.proofs.Saving.{one-written}
-use Rattle.export.proofs.told.Statement.{statement}
-use Rattle.export.proofs.told.Tie as tie
+use Rattle.export_tables.proofs.Saving.{one-written}
+use Rattle.export_tables.proofs.told.Statement.{statement}
+use Rattle.export_tables.proofs.told.Tie as tie
 
 slice-write-word : tie.Need-slice-write-word
 slice-write-word c = search needs
