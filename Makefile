@@ -24,11 +24,12 @@ prove:
 test:
 	bash .ci/run
 
-# every extern function of the top crate in one archive
+# the extern functions of the crates that export some, in one archive; each of these comes from the kit in one of its own
+EXPORTS = export export_tables
 archive:
 	mkdir -p target/lib
-	rt staticlib export > target/lib/archive.log 2>&1 || { cat target/lib/archive.log; exit 1; }
-	cp target/staticlib/libexport.a $(ARCHIVE)
+	for crate in $(EXPORTS); do rt staticlib $$crate || exit 1; done > target/lib/archive.log 2>&1 || { cat target/lib/archive.log; exit 1; }
+	{ echo 'CREATE $(ARCHIVE)'; printf 'ADDLIB target/staticlib/lib%s.a\n' $(EXPORTS); echo SAVE; echo END; } | ar -M
 
 host: archive
 	bash host/check.sh $(ARCHIVE)

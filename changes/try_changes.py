@@ -23,6 +23,7 @@ import call_changes  # noqa: F401  each module adds to CHANGES
 import listing_changes  # noqa: F401
 import search_changes  # noqa: F401
 import sheet_changes  # noqa: F401
+import table_changes  # noqa: F401
 import text_changes  # noqa: F401
 from change import CHANGES, changed
 

@@ -3,15 +3,17 @@
     python3 examples/plant_text.py list FILE.plant [-k STATES] [--limit TRIALS]
     python3 examples/plant_text.py sheet FILE.plant -o FILE.sheet
     python3 examples/plant_text.py text FILE.sheet -o FILE.plant
+    python3 examples/plant_text.py tables FILE.plant
     python3 examples/plant_text.py names FILE.plant < FILE.list
     python3 examples/plant_text.py check FILE.plant ...
 
 `list` lists the leading states of a text: it makes the sheet, runs the host
 program over it and names what that prints. `sheet` writes the sheet of a text.
-`text` writes a text of a sheet, with made-up names (p0, h0, s0). `names` reads
-what the host or the program `leading` printed, names in each line the parts that
-are not in their first state, and says conflicts in words. `check` holds FILE.sheet
-to FILE.plant, and takes both there and back. README.md says what a text looks like.
+`text` writes a text of a sheet, with made-up names (p0, h0, s0). `tables` prints
+the tables of a text as leading_tables takes them. `names` reads what the host or
+the program `leading` printed, names in each line the parts that are not in their
+first state, and says conflicts in words. `check` holds FILE.sheet to FILE.plant,
+and takes both there and back. README.md says what a text looks like.
 
 Bytes are packed and read by outside/plant.py, which shares nothing with the
 proved library. Python 3, standard library only.
@@ -39,6 +41,7 @@ from plant import (  # noqa: E402
     read,
 )
 
+COMMANDS = ("list", "sheet", "text", "tables", "names", "check")
 VALUES_MOST = 16
 COST_MOST = 65535
 LITERALS_MOST = 15
@@ -308,6 +311,18 @@ def list_states(path, host, k, limit):
     return done.returncode
 
 
+def to_tables(plant):
+    """The plant's numbers and tables, a line each."""
+    lines = {
+        "numbers": [plant.decisions, len(plant.state_sizes), len(plant.clauses)],
+        "sizes": [*map(len, plant.costs), *plant.state_sizes],
+        "costs": [cost for row in plant.costs for cost in row],
+        "counts": [len(clause) for clause in plant.clauses],
+        "literals": [number for clause in plant.clauses for literal in clause for number in literal],
+    }
+    return "".join(" ".join(map(str, [word, *numbers])) + "\n" for word, numbers in lines.items())
+
+
 def check(path):
     """The stored sheet is the text's, and both survive the way there and back."""
     text = read_text(path)
@@ -336,6 +351,8 @@ def run(words):
         write(to_sheet(read_text(first), first), words.output)
     elif words.command == "text":
         write(to_text(read_bytes(first)).encode(), words.output)
+    elif words.command == "tables":
+        write(to_tables(parse(read_text(first), first).plant()).encode(), None)
     elif words.command == "names":
         parts = parse(read_text(first), first).parts
         lines = decoded(sys.stdin.buffer.read(TEXT_MOST + 1), "standard input")
@@ -351,7 +368,7 @@ def arguments(words):
     layout = argparse.RawDescriptionHelpFormatter
     parser = argparse.ArgumentParser("plant_text.py", description=__doc__, formatter_class=layout)
     commands = parser.add_subparsers(dest="command", required=True)
-    of = {name: commands.add_parser(name) for name in ("list", "sheet", "text", "names", "check")}
+    of = {name: commands.add_parser(name) for name in COMMANDS}
     for name, command in of.items():
         many = "+" if name == "check" else 1
         command.add_argument("files", type=Path, metavar="FILE", nargs=many)

@@ -49,7 +49,7 @@ build() {
     local compiler=$1 folder=$2 program
     shift 2
     mkdir -p "$folder"
-    for program in leading_host test_leading; do
+    for program in leading_host leading_tables test_leading test_tables; do
         "$compiler" -std=c11 "${strict[@]}" "$@" "host/$program.c" "$archive" -o "$folder/$program"
     done
 }
@@ -88,10 +88,25 @@ messages() {
     grep -q 'may take hours' "$out/printed" || fail "leading_host --help: no warning"
 }
 
+# $1 leading_tables: a refusal of the tables and one of the sheet, and what is no table
+tables_refused() {
+    local tables=$'numbers 1 0 0\nsizes 2\ncosts 0 3\ncounts\nliterals' status=0
+    prints "$1" 'refused 16' write <<< "${tables/costs 0 3/costs 0}"
+    prints "$1" 'refused 17' write <<< "${tables/sizes 2$'\n'costs 0 3/sizes 0$'\n'costs}"
+    prints "$1" 'refused 5' read < /dev/null
+    for said in "${tables/3/many}" "${tables/3/65536}" "${tables/counts/count}" "${tables/1 0 0/1 0}"; do
+        status=0
+        "$1" write <<< "$said" > "$out/printed" 2> "$out/reason" || status=$?
+        [ "$status" = 2 ] && [ ! -s "$out/printed" ] || fail "leading_tables write: $said"
+    done
+}
+
 # the programs of a folder: the test of the header, each list, some refusals
 exercise() {
     local host=$1/leading_host name
     "$1/test_leading"
+    "$1/test_tables"
+    tables_refused "$1/leading_tables"
     for name in "${examples[@]}"; do
         prints "$host" "$(cat "examples/$name.list")" "examples/$name.sheet"
         "$host" < "examples/$name.sheet" | cmp - "examples/$name.list"
@@ -171,7 +186,7 @@ check_manual() {
     local name number
     synopsis > "$out/synopsis.c"
     "$1" -std=c11 "${strict[@]}" -fsyntax-only "$out/synopsis.c"
-    for name in leading_{list,held,test,reduce,version}; do
+    for name in leading_{list,held,test,reduce,write,read,version}; do
         grep -q "$name(" "$out/synopsis.c" || fail "manual: no declaration of $name"
     done
     for name in $(grep -o 'LEADING_[A-Z_]*' man/leading.3 | sort -u); do
@@ -188,7 +203,7 @@ check_manual() {
 check_pages() {
     local name page=$PWD/$out/page
     have groff || return 0
-    for name in leading leading_{list,held,test,reduce,version}; do
+    for name in leading leading_{list,held,test,reduce,write,read,version}; do
         (cd "$1/share/man" && groff -man -ww -Tutf8 "man3/$name.3") > "$page.$name" 2> "$page.said"
         [ ! -s "$page.said" ] || fail "manual: $(cat "$page.said")"
         cmp "$page.$name" "$page.leading"
@@ -239,6 +254,30 @@ check_texts() {
         python3 -B outside/listing.py < "examples/$name.sheet" | cmp - "examples/$name.list"
     done
     say "texts, sheets and lists of the examples"
+}
+
+# $1 a sheet, $2 its tables as plant_text.py says them: the library writes the one from the other, and reads them
+same_tables() {
+    "$out/leading_tables" write < "$2" | cmp - "$1"
+    "$out/leading_tables" read < "$1" | cmp - "$2"
+}
+
+# on all examples and the corpus: the bytes that plant_text.py packs, and its tables
+check_tables() {
+    local name sheet count=0 text=$out/again.plant tables=$out/tables
+    for name in "${examples[@]}"; do
+        python3 -B examples/plant_text.py tables "examples/$name.plant" > "$tables"
+        same_tables "examples/$name.sheet" "$tables"
+    done
+    for sheet in bench/corpus/*.sheet; do
+        python3 -B examples/plant_text.py text "$sheet" -o "$text"
+        python3 -B examples/plant_text.py sheet "$text" -o "$out/again.sheet"
+        python3 -B examples/plant_text.py tables "$text" > "$tables"
+        same_tables "$out/again.sheet" "$tables"
+        cmp "$out/again.sheet" "$sheet"
+        count=$((count + 1))
+    done
+    say "sheets of ${#examples[@]} examples and $count plants of the corpus: written as plant_text.py packs them, and read"
 }
 
 # $1 what the command has to print, its words: from a text to a named list
@@ -311,5 +350,6 @@ check_programs
 check_sanitized
 check_stack "$cc"
 check_installed "$cc"
-cp "$out/$(basename "$cc")/leading_host" "$out/leading_host"
+cp "$out/$(basename "$cc")"/leading_{host,tables} "$out"
+check_tables
 check_named

@@ -85,10 +85,37 @@ static void reduce(void)
             conflict[LEADING_CONFLICT_MASK] == LEADING_MASK(0);
 }
 
+/* What the sheet says. */
+static uint8_t sizes[LEADING_SIZE_ENTRIES], counts[LEADING_COUNT_ENTRIES];
+static uint8_t literals[LEADING_LITERAL_BYTES];
+static uint16_t costs[LEADING_COST_ENTRIES];
+static uint32_t numbers[LEADING_NUMBERS_WORDS];
+
+static void read_tables(void)
+{
+    meant = leading_read(sheet, sheet_len, sizes, costs, counts, literals, numbers) == LEADING_OK;
+}
+
+/* One literal in each clause, two values a part. */
+static void write_tables(void)
+{
+    static uint8_t again[LEADING_SHEET_BYTES_MOST];
+    uint32_t written = 0, clauses = numbers[LEADING_NUMBER_CLAUSES];
+    meant = leading_write(sizes, LEADING_PARTS_MOST + LEADING_HIDDEN_MOST, costs,
+                          2 * LEADING_PARTS_MOST, counts, clauses, literals, 3 * (size_t)clauses,
+                          again, sizeof again, LEADING_PARTS_MOST, LEADING_HIDDEN_MOST, clauses,
+                          &written) == LEADING_OK &&
+            written == sheet_len && !memcmp(sheet, again, written);
+}
+
 static const struct call {
     const char *name;
     void (*function)(void);
-} calls[] = {{"leading_list", list}, {"leading_test", test}, {"leading_reduce", reduce}};
+} calls[] = {{"leading_list", list},
+             {"leading_test", test},
+             {"leading_reduce", reduce},
+             {"leading_read", read_tables},
+             {"leading_write", write_tables}};
 
 static size_t used_by(void (*function)(void))
 {
@@ -109,6 +136,7 @@ static size_t used_by(void (*function)(void))
 static bool keeps_within(const struct call *call, unsigned clauses)
 {
     write_sheet(clauses);
+    read_tables();    /* what leading_write is given */
     call->function(); /* so that memset is bound already */
     meant = false;
     size_t used = used_by(call->function);

@@ -416,8 +416,8 @@ static void test_version(void)
 /* Of each number a text, none twice; of any other "unknown". */
 static void test_refusal_texts(void)
 {
-    static const uint32_t others[] = {LEADING_BAD_VALUES + 1, 99, UINT32_MAX};
-    for (uint32_t i = LEADING_OK; i <= LEADING_BAD_VALUES; i++) {
+    static const uint32_t others[] = {LEADING_BAD_SHEET_ROOM + 1, 99, UINT32_MAX};
+    for (uint32_t i = LEADING_OK; i <= LEADING_BAD_SHEET_ROOM; i++) {
         expect(strcmp(leading_refusal_text(i), "unknown") != 0, "texts", "a refusal has none");
         for (uint32_t j = LEADING_OK; j < i; j++)
             expect(strcmp(leading_refusal_text(i), leading_refusal_text(j)) != 0, "texts",

@@ -10,6 +10,8 @@
  *
  * leading_test() says whether given states of some parts can be together, and
  * leading_reduce() which of them are to blame where they cannot.
+ * leading_write() makes a sheet of a plant's tables, and leading_read() the tables
+ * of a sheet; each undoes the other.
  * leading_held() says how many conflicts a listing leaves for the next one, and
  * leading_version() which archive is linked.
  *
@@ -34,7 +36,8 @@
  * variables make every clause hold.
  *
  * Example: the small plant. This very text is compiled and run by the gate, as
- * C and as C++; so are the examples at leading_held() and leading_reduce().
+ * C and as C++; so are the examples at leading_held(), leading_reduce() and
+ * leading_read().
  *
  * @code
  * #include <inttypes.h>
@@ -93,16 +96,16 @@ extern "C" {
 /* Of this interface. MAJOR rises with a change that breaks callers, MINOR with
  * one that adds to it. */
 #define LEADING_VERSION_MAJOR 0
-#define LEADING_VERSION_MINOR 3
+#define LEADING_VERSION_MINOR 4
 #define LEADING_VERSION_PATCH 0
-#define LEADING_VERSION "0.3.0"
+#define LEADING_VERSION "0.4.0"
 
 /* The three in one number, for #if and for leading_version(). */
 #define LEADING_VERSION_NUMBER                                       \
     (LEADING_VERSION_MAJOR * 65536u + LEADING_VERSION_MINOR * 256u + \
      LEADING_VERSION_PATCH)
 
-/* The edition of the plant sheet that is read: its first byte. */
+/* The edition of the plant sheet that is read and written: its first byte. */
 #define LEADING_EDITION 1
 
 /* ---- Limits and sizes --------------------------------------------------- */
@@ -129,6 +132,16 @@ extern "C" {
 /* uint64_t words of a conflict. */
 #define LEADING_CONFLICT_WORDS 2
 
+/* Entries of the tables of the largest plant; leading_read() is lent tables of
+ * just so many. */
+#define LEADING_SIZE_ENTRIES 48     /* uint8_t, one for each variable */
+#define LEADING_COST_ENTRIES 256    /* uint16_t, one for each state of each part */
+#define LEADING_COUNT_ENTRIES 512   /* uint8_t, one for each clause */
+#define LEADING_LITERAL_BYTES 23040 /* uint8_t, three for each literal */
+
+/* uint32_t words of the numbers of parts, hidden variables and clauses. */
+#define LEADING_NUMBERS_WORDS 3
+
 /*
  * Stack that a call may take, in bytes, whatever it is given. Measured: 97,888,
  * on a painted stack with the most variables and the deepest search that a sheet
@@ -150,7 +163,8 @@ extern "C" {
  * reading. A refused call changes no buffer, the result included.
  *
  * leading_list is refused by 1 to 13, leading_test and leading_reduce by 2 and
- * by 5 to 15.
+ * by 5 to 15, leading_read by 5 to 13. leading_write has an order of its own: 16,
+ * 17, 7, 8, 9, then 10 and 11 literal by literal, then 18.
  */
 enum leading_refusal {
     LEADING_OK = 0,
@@ -166,7 +180,7 @@ enum leading_refusal {
     LEADING_BAD_STORE = 4,  /* store_len is odd or above 8,192, or held is more
                                than the entries of the store */
 
-    /* The sheet's author's. */
+    /* The author's, of a sheet or (7 to 11) of tables. */
     LEADING_SHEET_SHORT = 5,     /* a field runs past the end; comes before the
                                     field's own rule */
     LEADING_SHEET_EDITION = 6,   /* the edition is not LEADING_EDITION */
@@ -181,8 +195,22 @@ enum leading_refusal {
 
     /* The caller's, of a test or reduction; looked at after the sheet. */
     LEADING_BAD_MASK = 14,  /* a bit of the mask beyond the sheet's parts */
-    LEADING_BAD_VALUES = 15 /* a value that its part has not, or a nibble that
-                               is not 0 where the mask is 0 */
+    LEADING_BAD_VALUES = 15, /* a value that its part has not, or a nibble that
+                                is not 0 where the mask is 0 */
+
+    /* Of tables: the caller's, looked at first; the author's; the caller's,
+     * looked at last. */
+    LEADING_BAD_TABLES = 16,    /* a table is not as long as the numbers say */
+    LEADING_TABLES_RANGES = 17, /* a size that is not 1 to 16, more than 15
+                                   literals in a clause, or a sign above 1 */
+    LEADING_BAD_SHEET_ROOM = 18 /* sheet_len is below the sheet's bytes */
+};
+
+/* The places of the numbers that leading_read() writes. */
+enum leading_numbers {
+    LEADING_NUMBER_PARTS = 0,  /* parts */
+    LEADING_NUMBER_HIDDEN = 1, /* hidden variables */
+    LEADING_NUMBER_CLAUSES = 2 /* clauses */
 };
 
 /* The places of a listing's result words. */
@@ -254,6 +282,10 @@ static inline const char *leading_refusal_text(uint32_t refusal)
     case LEADING_BAD_MASK: return "the mask has a bit beyond the sheet's parts";
     case LEADING_BAD_VALUES:
         return "a value is outside its part's, or stands where the mask is 0";
+    case LEADING_BAD_TABLES: return "a table is not as long as the numbers say";
+    case LEADING_TABLES_RANGES:
+        return "a size is not 1 to 16, a clause has more than 15 literals, or a sign is above 1";
+    case LEADING_BAD_SHEET_ROOM: return "the buffer is shorter than the sheet";
     default: return "unknown";
     }
 }
@@ -305,7 +337,8 @@ static inline const char *leading_reduce_text(uint32_t answer)
  *     zero bits up to the end of the byte.
  *
  * A clause holds if one of its literals holds; one without literals never does.
- * examples/plant_text.py writes sheets from a text with names, and back.
+ * leading_write() writes sheets from tables, and leading_read() reads them into
+ * tables; examples/plant_text.py does so from a text with names, and back.
  */
 
 /* The number of parts that a sheet names, in its second byte: 1 to 16 where the
@@ -341,7 +374,7 @@ static inline const char *leading_reduce_text(uint32_t answer)
  * Pointers are not NULL, also where the count is 0, and are aligned as their type
  * asks. No two buffers overlap, the sheet among them. While the call lasts nobody
  * else writes the sheet or touches the other buffers. Apart from the
- * counts that refusals 1 to 4 name, none of this is checked: as with memcpy,
+ * counts that refusals 1 to 4, 16 and 18 name, none of this is checked: as with memcpy,
  * breaking it is undefined.
  */
 
@@ -575,6 +608,132 @@ uint32_t leading_reduce(const uint8_t *sheet, size_t sheet_len,
                         uint64_t mask, uint64_t values, uint32_t limit,
                         uint64_t *conflict, size_t conflict_len,
                         uint32_t *result, size_t result_len);
+
+/* ---- Tables ------------------------------------------------------------- */
+
+/*
+ * What a sheet says, as tables without gaps and three numbers: parts, hidden
+ * variables and clauses.
+ *
+ *     sizes     an entry for each variable, its states or values, 1 to 16; parts
+ *               first, then hidden variables
+ *     costs     an entry for each state of each part: those of part 0 in turn,
+ *               then those of part 1, and so on
+ *     counts    an entry for each clause, its literals, 0 to 15
+ *     literals  three bytes for each literal in reading order: variable, sign (0
+ *               equal, 1 unequal), value
+ *
+ * A sheet has one form: writing the tables that leading_read() gave returns the
+ * bytes it was given, and reading what leading_write() wrote returns the tables.
+ * That is proved of every call.
+ */
+
+/*
+ * Writes the sheet of a plant's tables.
+ *
+ * sizes, sizes_len, costs, costs_len, counts, counts_len, literals, literals_len
+ *     The tables; only read. Any numbers are looked at, and any lengths: nothing
+ *     is read beyond a table.
+ * sheet, sheet_len
+ *     Out: the sheet, from place 0 on. At most LEADING_SHEET_BYTES_MOST bytes are
+ *     needed. Before: anything. After: bytes behind the sheet unchanged.
+ * parts, hidden, clauses
+ *     The numbers. sizes_len is parts + hidden, costs_len the sum of the parts'
+ *     sizes, counts_len is clauses, and literals_len three times the sum of the
+ *     counts; otherwise the call is refused with 16.
+ * written
+ *     Out: one word, the number of bytes written. After a refusal unchanged.
+ *
+ * Returns LEADING_OK (0) after the sheet was written; otherwise the number of the
+ * refusal, with every buffer as it was: 16; 17 a size, a literal count or a sign
+ * out of range; 7, 8 or 9 the numbers; 10 or 11 the first literal, in reading
+ * order, whose variable is not there or whose value its variable has not; 18
+ * where sheet_len is less than the sheet needs.
+ */
+uint32_t leading_write(const uint8_t *sizes, size_t sizes_len,
+                       const uint16_t *costs, size_t costs_len,
+                       const uint8_t *counts, size_t counts_len,
+                       const uint8_t *literals, size_t literals_len,
+                       uint8_t *sheet, size_t sheet_len,
+                       uint32_t parts, uint32_t hidden, uint32_t clauses,
+                       uint32_t *written);
+
+/*
+ * Reads a sheet into tables, which leading_write() takes as they are.
+ *
+ * sheet, sheet_len
+ *     The plant sheet, as for leading_list.
+ * sizes, costs, counts, literals
+ *     Out: the tables, each from place 0 on. Each has LEADING_SIZE_ENTRIES,
+ *     LEADING_COST_ENTRIES, LEADING_COUNT_ENTRIES and LEADING_LITERAL_BYTES
+ *     entries, which the largest plant fills. Before: anything. After: entries
+ *     behind a table unchanged.
+ * numbers
+ *     Out: LEADING_NUMBERS_WORDS words, at the places of enum leading_numbers.
+ *
+ * Returns LEADING_OK (0) after the tables were written; otherwise the number of
+ * the refusal (5 to 13), with every buffer as it was.
+ *
+ * Example: the small plant again, opened, its clutch's fault made dearer, and
+ * written anew.
+ *
+ * @code
+ * #include <inttypes.h>
+ * #include <stdio.h>
+ * #include "leading.h"
+ *
+ * static uint8_t sizes[LEADING_SIZE_ENTRIES];
+ * static uint16_t costs[LEADING_COST_ENTRIES];
+ * static uint8_t counts[LEADING_COUNT_ENTRIES];
+ * static uint8_t literals[LEADING_LITERAL_BYTES];
+ *
+ * int main(void)
+ * {
+ *     static const uint8_t sheet[] = {
+ *         0x01, 0x10, 0x20, 0x10, 0x80, 0x00, 0x00, 0x01, 0x88, 0x00,
+ *         0x00, 0x00, 0x18, 0x98, 0x10, 0x06, 0x01, 0x04, 0x42, 0x00};
+ *     static uint8_t dearer[LEADING_SHEET_BYTES_MOST];
+ *     uint32_t numbers[LEADING_NUMBERS_WORDS], written;
+ *
+ *     uint32_t refused = leading_read(sheet, sizeof sheet, sizes, costs, counts,
+ *                                     literals, numbers);
+ *     if (refused != LEADING_OK)
+ *         return 1;
+ *     uint32_t parts = numbers[LEADING_NUMBER_PARTS];
+ *     uint32_t hidden = numbers[LEADING_NUMBER_HIDDEN];
+ *     uint32_t clauses = numbers[LEADING_NUMBER_CLAUSES];
+ *     size_t prices = 0, bytes = 0;
+ *     for (uint32_t part = 0; part < parts; part++)
+ *         prices += sizes[part];
+ *     for (uint32_t clause = 0; clause < clauses; clause++)
+ *         bytes += 3u * counts[clause];
+ *
+ *     costs[3] = 5;
+ *     refused = leading_write(sizes, parts + hidden, costs, prices, counts, clauses,
+ *                             literals, bytes, dearer, sizeof dearer,
+ *                             parts, hidden, clauses, &written);
+ *     if (refused != LEADING_OK) {
+ *         printf("refused: %s\n", leading_refusal_text(refused));
+ *         return 1;
+ *     }
+ *     printf("%" PRIu32 " bytes\n", written);
+ *     for (uint32_t i = 0; i < written; i++)
+ *         if (dearer[i] != sheet[i])
+ *             printf("byte %" PRIu32 ": %02x, was %02x\n", i, dearer[i], sheet[i]);
+ *     return 0;
+ * }
+ * @endcode
+ *
+ * It prints
+ *
+ * @output
+ * 20 bytes
+ * byte 12: 28, was 18
+ * @endoutput
+ */
+uint32_t leading_read(const uint8_t *sheet, size_t sheet_len,
+                      uint8_t *sizes, uint16_t *costs, uint8_t *counts,
+                      uint8_t *literals, uint32_t *numbers);
 
 #ifdef __cplusplus
 }

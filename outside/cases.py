@@ -16,7 +16,8 @@ from test_cases import Call, answer_call, tight_plant
 
 U32_MOST = 2**32 - 1
 ENTRIES_MOST = 4096
-LIST, TEST, REDUCE = range(3)  # the calls, as replay.c numbers them
+LIST, TEST, REDUCE, WRITE, READ = range(5)  # the calls, as replay.c numbers them
+TYPES = {1: "B", 2: "H", 4: "I", 8: "Q"}  # of an array, by a word's bytes
 
 
 class Case(NamedTuple):
@@ -247,7 +248,7 @@ def junk(rng, words, width):
         data = (b"\1" + bytes(7)) * words
     else:
         data = rng.randbytes(length)
-    return array("Q" if width == 8 else "I", data[:length]).tolist()
+    return array(TYPES[width], data[:length]).tolist()
 
 
 def broken_clause(rng, plant):

@@ -3,7 +3,7 @@
 set -euo pipefail
 cd "$(dirname "$0")/.."
 python3 -B outside/test_outside.py
-for stream in sheets tests listings; do
+for stream in sheets tests listings tables; do
     for part in stdin stdout; do
         python3 -B outside/vectors.py "$stream" "$part" | cmp - "crates/replay_$stream/$part"
     done

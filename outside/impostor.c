@@ -1,6 +1,6 @@
 /* Wrong calls over the right ones, to see that scale.py finds them: IMPOSTOR says
- * which; 1 to 8 list, 9 to 13 test, 14 to 19 reduce. Linked with --wrap for each
- * of the three; no part of the gate. */
+ * which; 1 to 8 list, 9 to 13 test, 14 to 19 reduce, 20 to 29 write, 30 to 34 read.
+ * Linked with --wrap for each of the five; no part of the gate. */
 #include "leading.h"
 
 #define LENT                                                                   \
@@ -17,12 +17,26 @@
     const uint8_t *sheet, size_t sheet_len, uint64_t mask, uint64_t values, uint32_t limit, \
         uint64_t *conflict, size_t conflict_len, uint32_t *result, size_t result_len
 
+#define WRITTEN                                                                           \
+    const uint8_t *sizes, size_t sizes_len, const uint16_t *costs, size_t costs_len,      \
+        const uint8_t *counts, size_t counts_len, const uint8_t *literals,                \
+        size_t literals_len, uint8_t *sheet, size_t sheet_len, uint32_t decisions,        \
+        uint32_t states, uint32_t clauses, uint32_t *written
+
+#define READ                                                                            \
+    const uint8_t *sheet, size_t sheet_len, uint8_t *sizes, uint16_t *costs, uint8_t *counts, \
+        uint8_t *literals, uint32_t *numbers
+
 uint32_t __real_leading_list(LENT);
 uint32_t __wrap_leading_list(LENT);
 uint32_t __real_leading_test(TESTED);
 uint32_t __wrap_leading_test(TESTED);
 uint32_t __real_leading_reduce(REDUCED);
 uint32_t __wrap_leading_reduce(REDUCED);
+uint32_t __real_leading_write(WRITTEN);
+uint32_t __wrap_leading_write(WRITTEN);
+uint32_t __real_leading_read(READ);
+uint32_t __wrap_leading_read(READ);
 
 /* Of two states of one cost the later code first. */
 static void swap_tie(uint64_t *codes, const uint32_t *costs, uint32_t listed)
@@ -113,5 +127,88 @@ uint32_t __wrap_leading_reduce(REDUCED)
         conflict[LEADING_CONFLICT_MASK] = mask;
     if (IMPOSTOR == 19 && conflict_len > LEADING_CONFLICT_WORDS) /* a word behind the two */
         conflict[LEADING_CONFLICT_WORDS] = 0;
+    return refused;
+}
+
+/* Of tables whose lengths disagree: 17 where a size or a count is out of its range. */
+static uint32_t entries_first(const uint8_t *sizes, size_t sizes_len, const uint8_t *counts,
+                              size_t counts_len)
+{
+    for (size_t i = 0; i < sizes_len; i++)
+        if (sizes[i] < 1 || sizes[i] > LEADING_VALUES_MOST)
+            return LEADING_TABLES_RANGES;
+    for (size_t i = 0; i < counts_len; i++)
+        if (counts[i] > LEADING_LITERALS_MOST)
+            return LEADING_TABLES_RANGES;
+    return LEADING_BAD_TABLES;
+}
+
+static void reverse_bits(uint8_t *bytes, size_t n)
+{
+    for (size_t i = 0; i < n; i++) {
+        unsigned turned = 0;
+        for (unsigned bit = 0; bit < 8; bit++)
+            turned |= (bytes[i] >> bit & 1u) << (7 - bit);
+        bytes[i] = (uint8_t)turned;
+    }
+}
+
+uint32_t __wrap_leading_write(WRITTEN)
+{
+    uint8_t before[LEADING_SHEET_BYTES_MOST];
+    size_t room = sheet_len < sizeof before ? sheet_len : sizeof before;
+    for (size_t i = 0; i < room; i++)
+        before[i] = sheet[i];
+    size_t lent = sheet_len + (IMPOSTOR == 20); /* a buffer one byte short is taken */
+    uint32_t refused = __real_leading_write(sizes, sizes_len, costs, costs_len, counts,
+                                            counts_len, literals, literals_len, sheet, lent,
+                                            decisions, states, clauses, written);
+    if (IMPOSTOR == 21 && refused == LEADING_SHEET_VARIABLE) /* 10 told as 11 */
+        return LEADING_SHEET_VALUE;
+    if (IMPOSTOR == 22 && refused == LEADING_BAD_TABLES) /* 16 decided after 17 */
+        return entries_first(sizes, sizes_len, counts, counts_len);
+    if (IMPOSTOR == 23 && refused && sheet_len > 0) /* a refusal writes */
+        sheet[0] = 1;
+    if (IMPOSTOR == 24 && refused) /* a refusal counts */
+        *written = 0;
+    if (refused)
+        return refused;
+    size_t bits = 29 + 4 * sizes_len + 16 * costs_len + 4 * counts_len + 11 * (literals_len / 3);
+    size_t filler = 8 * (size_t)*written - bits;
+    if (IMPOSTOR == 25) /* the filler left as it was */
+        sheet[*written - 1] |= (uint8_t)(before[*written - 1] & ((1u << filler) - 1));
+    if (IMPOSTOR == 26 && sheet_len > *written) /* a byte beyond the sheet */
+        sheet[*written] = 0;
+    if (IMPOSTOR == 27) /* the other order of bits */
+        reverse_bits(sheet, *written);
+    if (IMPOSTOR == 28) /* one byte too many told */
+        *written += 1;
+    if (IMPOSTOR == 29 && literals_len > 0) /* the last literal's sign is lost */
+        sheet[(bits - 5) / 8] &= (uint8_t)~(128u >> (bits - 5) % 8);
+    return refused;
+}
+
+uint32_t __wrap_leading_read(READ)
+{
+    uint32_t refused = __real_leading_read(sheet, sheet_len, sizes, costs, counts, literals,
+                                           numbers);
+    if (IMPOSTOR == 30 && refused) /* a refusal writes */
+        numbers[0] = 0;
+    if (refused)
+        return refused;
+    if (IMPOSTOR == 31) { /* the numbers in another order */
+        uint32_t number = numbers[0];
+        numbers[0] = numbers[1];
+        numbers[1] = number;
+        return refused;
+    }
+    uint32_t variables = numbers[0] + numbers[1];
+    if (IMPOSTOR == 32 && variables < 48) /* a size beyond the plant's */
+        sizes[variables] = 0;
+    if (IMPOSTOR == 33) /* costs with gaps: the second variable's in a row of its own */
+        for (uint32_t x = 0; numbers[0] > 1 && sizes[0] < 16 && x < sizes[1]; x++)
+            costs[16 + x] = costs[sizes[0] + x];
+    if (IMPOSTOR == 34 && numbers[2] > 0) /* an equal literal read as unequal */
+        literals[1] |= counts[0] > 0;
     return refused;
 }

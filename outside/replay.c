@@ -1,11 +1,12 @@
 /* Replays calls on the archive: cases from standard input, answers to standard
  * output, both binary in the machine's byte order.
  *
- * Case: a u64, which call (0 list, 1 test, 2 reduce); a u64 for the length of each
- * of its buffers, in the call's order; three u64, its numbers: of a listing k, held
- * and limit, of the others mask, values and limit; then the buffers as they are
- * lent. Answer: two u64, what the call returned and how many bytes around the
- * buffers changed; then the buffers as they came back.
+ * Case: a u64, which call (0 list, 1 test, 2 reduce, 3 write, 4 read); a u64 for the
+ * length of each of its buffers, in the call's order; a u64 for each of its numbers:
+ * of a listing k, held and limit, of a test or reduction mask, values and limit, of a
+ * writing those of decision variables, state variables and clauses, of a reading
+ * none; then the buffers as they are lent. Answer: two u64, what the call returned
+ * and how many bytes around the buffers changed; then the buffers as they came back.
  */
 #include "leading.h"
 
@@ -16,14 +17,14 @@
 #define GUARD 64 /* bytes before each buffer, and behind it */
 #define GUARD_BYTE 0xa5
 
-enum { BUFFERS_MOST = 6, NUMBERS = 3 };
+enum { BUFFERS_MOST = 6, NUMBERS_MOST = 3 };
 
 struct lent {
     unsigned char *all;
     size_t bytes;
 };
 
-/* One of the calls, on buffers with their lengths and three numbers. */
+/* One of the calls, on buffers with their lengths and its numbers. */
 typedef uint32_t call(void *const *at, const uint64_t *len, const uint64_t *number);
 
 static uint32_t list(void *const *at, const uint64_t *len, const uint64_t *number)
@@ -45,13 +46,28 @@ static uint32_t reduce(void *const *at, const uint64_t *len, const uint64_t *num
                           len[1], at[2], len[2]);
 }
 
+static uint32_t write_sheet(void *const *at, const uint64_t *len, const uint64_t *number)
+{
+    return leading_write(at[0], len[0], at[1], len[1], at[2], len[2], at[3], len[3], at[4],
+                         len[4], (uint32_t)number[0], (uint32_t)number[1],
+                         (uint32_t)number[2], at[5]);
+}
+
+static uint32_t read_sheet(void *const *at, const uint64_t *len, const uint64_t *number)
+{
+    (void)number;
+    return leading_read(at[0], len[0], at[1], at[2], at[3], at[4], at[5]);
+}
+
 static const struct kind {
     call *call;
-    size_t buffers, widths[BUFFERS_MOST];
+    size_t buffers, numbers, widths[BUFFERS_MOST];
 } kinds[] = {
-    {list, 6, {1, 8, 4, 8, 8, 4}}, /* sheet, codes, costs, queue, store, result */
-    {test, 2, {1, 4}},             /* sheet, result */
-    {reduce, 3, {1, 8, 4}},        /* sheet, conflict, result */
+    {list, 6, 3, {1, 8, 4, 8, 8, 4}},        /* sheet, codes, costs, queue, store, result */
+    {test, 2, 3, {1, 4}},                    /* sheet, result */
+    {reduce, 3, 3, {1, 8, 4}},               /* sheet, conflict, result */
+    {write_sheet, 6, 3, {1, 2, 1, 1, 1, 4}}, /* sizes, costs, counts, literals, sheet, written */
+    {read_sheet, 6, 0, {1, 1, 2, 1, 1, 4}},  /* sheet, sizes, costs, counts, literals, numbers */
 };
 
 static void give_up(const char *why)
@@ -90,9 +106,9 @@ static void answer(const struct kind *kind)
 {
     struct lent lent[BUFFERS_MOST];
     void *at[BUFFERS_MOST];
-    uint64_t len[BUFFERS_MOST], number[NUMBERS], head[2] = {0, 0};
+    uint64_t len[BUFFERS_MOST], number[NUMBERS_MOST], head[2] = {0, 0};
     take(len, kind->buffers * sizeof *len);
-    take(number, sizeof number);
+    take(number, kind->numbers * sizeof *number);
     for (size_t i = 0; i < kind->buffers; i++) {
         lent[i] = lend(len[i] * kind->widths[i]);
         at[i] = lent[i].all + GUARD;

@@ -2,28 +2,27 @@
 
 `replay.c` calls the archive; here the cases are made, every lent word is
 compared, demand 3 is checked, and the lists of one sheet are held together.
-Tests and reductions are compared likewise, and checked by brute force.
+Tests and reductions are compared likewise, and checked by brute force; so are
+tables written to sheets and sheets read into tables, in `table_scale.py`.
 """
 
 import argparse
-import subprocess
 import sys
-from array import array
 from collections import Counter
 from itertools import combinations
 from math import prod
 from random import Random
-from struct import pack, unpack_from
-from typing import NamedTuple
 
 sys.dont_write_bytecode = True
 
 from cases import REDUCE, TEST, Case, Shape, any_call, any_case, any_plant, junk, lend
 from cases import crowded_plant, put_offers, tied_plant, wide_plant
+from driver import SHOWN_MOST, Answer, Tally, batches, buffers_of, in_words, run_batch
 from listing import ENDINGS, Result, Run, Settings, export, manifests
 from plant import Refusal, encode, read
 from search import Meter, well_formed
 from shapes import nogood_plant, random_words, small_random_plant
+from table_scale import TableTally, report_tables, run_stored, run_tables
 from test_cases import answer_call, tight_plant
 from whole import begins, brute_consistent, check_demand3, check_rest
 from whole import consistent_states, minimal, whole_set
@@ -31,12 +30,7 @@ from whole import consistent_states, minimal, whole_set
 WORK_MOST = 300_000
 TRIALS_MOST = 60_000
 SPACE_MOST = 1500  # values of all variables, run over by brute force
-BATCH = 100
-TIME_MOST = 300  # seconds for a batch
-SHOWN_MOST = 10
 ROUNDS = 25
-WIDTHS = {"sheet": 1, "codes": 8, "costs": 4, "queue": 8, "store": 8, "conflict": 8, "result": 4}
-TYPES = {1: "B", 4: "I", 8: "Q"}
 ENDING_NAMES = {number: name for name, number in ENDINGS.items()}
 ANSWERS = {
     TEST: ("consistent", "inconsistent", "spent"),
@@ -72,25 +66,7 @@ class Bounded(Run):
         return super().take_node(node)
 
 
-class Answer(NamedTuple):
-    returned: int
-    strays: int  # bytes around the buffers that changed
-    buffers: dict  # the bytes of each by its name, in the call's order
-
-    def words(self, name):
-        return words_of(self.buffers[name], name)
-
-
-# ---- the two programs ------------------------------------------------------
-
-
-def words_of(buffer, name):
-    return array(TYPES[WIDTHS[name]], buffer).tolist()
-
-
-def buffers_of(case):
-    pairs = case.lent().items()
-    return {name: array(TYPES[WIDTHS[name]], own).tobytes() for name, own in pairs}
+# ---- the outside program's answers -----------------------------------------
 
 
 def copy_of(case):
@@ -128,56 +104,7 @@ def wanted_call(case):
     return Answer(returned, 0, buffers_of(after))
 
 
-def case_bytes(case):
-    buffers = buffers_of(case)
-    lengths = [len(own) // WIDTHS[name] for name, own in buffers.items()]
-    head = (case.kind, *lengths, *case.numbers().values())
-    return pack(f"={len(head)}Q", *head) + b"".join(buffers.values())
-
-
-def take_answer(data, place, case):
-    """The answer at this place and where it ends; None where it is cut off."""
-    lengths = {name: len(own) for name, own in buffers_of(case).items()}
-    end = place + 16 + sum(lengths.values())
-    if end > len(data):
-        return None, end
-    returned, strays = unpack_from("=2Q", data, place)
-    place += 16
-    buffers = {}
-    for name, length in lengths.items():
-        buffers[name] = data[place : place + length]
-        place += length
-    return Answer(returned, strays, buffers), end
-
-
-def replay(driver, names, cases):
-    """The archive's answers."""
-    stream = b"".join(map(case_bytes, cases))
-    done = subprocess.run([driver], input=stream, stdout=subprocess.PIPE, timeout=TIME_MOST)
-    answers, place = [], 0
-    for name, case in zip(names, cases):
-        answer, place = take_answer(done.stdout, place, case)
-        if answer is None:
-            sys.exit(f"scale: {name}: no answer, the driver ended with {done.returncode}")
-        answers.append(answer)
-    if place != len(done.stdout) or done.returncode:
-        sys.exit(f"scale: after {names[-1]}: the driver ended with {done.returncode}")
-    return answers
-
-
-# ---- comparing -------------------------------------------------------------
-
-
-def differences(got, want):
-    if got.returned != want.returned:
-        yield f"returned {got.returned}, wanted {want.returned}"
-    if got.strays:
-        yield f"{got.strays} bytes around the buffers changed"
-    for name, own in got.buffers.items():
-        if own != want.buffers[name]:
-            pairs = enumerate(zip(got.words(name), want.words(name)))
-            place, (is_, was) = next((p, pair) for p, pair in pairs if pair[0] != pair[1])
-            yield f"{name}[{place}] is {is_:#x}, wanted {was:#x}"
+# ---- by brute force --------------------------------------------------------
 
 
 def result_of(answer):
@@ -210,58 +137,27 @@ def check_answer(case, answer, plant):
             yield "the conflict is not a least part of what was given"
 
 
-class Tally:
-    """Counts of what was compared, and of what differed."""
+class SearchTally(Tally):
+    """Of calls that search; checked where brute force can run over the plant."""
 
-    def __init__(self):
-        self.counts = Counter()
-        self.refusals = Counter()
-
-    def complain(self, name, what, case):
-        self.counts["differences"] += 1
-        if self.counts["differences"] > SHOWN_MOST:
-            return
-        words = {name: len(own) for name, own in case.lent().items()}
-        numbers = {name: f"{number:#x}" for name, number in case.numbers().items()}
-        print(f"scale: {name}: {what}")
-        print(f"  sheet {case.sheet.hex()}")
-        print(f"  {in_words(numbers)}; lengths: {in_words(words)}")
-
-    def count(self, case, want):
-        self.counts["cases"] += 1
-        self.counts["damaged"] += case.damaged
-        lent = case.lent()
-        self.counts["words"] += sum(map(len, lent.values())) - len(case.sheet)
-        if want.returned:
-            self.refusals[want.returned] += 1
-            return
-        self.counts["damaged and read"] += case.damaged
-        self.count_run(case, want.words("result"))
-
-    def check(self, name, case, got, want):
-        """Every lent word against the outside program's, then by brute force."""
-        self.count(case, want)
-        found = list(differences(got, want))
-        if not found and not got.returned:
-            plant = read(case.sheet)
-            if prod(plant.sizes) <= SPACE_MOST:
-                found += self.check_run(case, got, plant)
-        for what in found:
-            self.complain(name, what, case)
+    def check_run(self, case, got):
+        plant = read(case.sheet)
+        return self.check_found(case, got, plant) if prod(plant.sizes) <= SPACE_MOST else []
 
 
-class ListingTally(Tally):
+class ListingTally(SearchTally):
     """Of listings; a run is checked against demand 3."""
 
     def __init__(self):
         super().__init__()
         self.endings = Counter()
 
-    def count_run(self, case, result):
-        self.endings[ENDING_NAMES[result[0]]] += 1
-        self.counts["longest"] = max(self.counts["longest"], result[1])
+    def count_run(self, case, want):
+        number, listed = want.words("result")[:2]
+        self.endings[ENDING_NAMES[number]] += 1
+        self.counts["longest"] = max(self.counts["longest"], listed)
 
-    def check_run(self, case, got, plant):
+    def check_found(self, case, got, plant):
         result = result_of(got)
         self.counts["demand 3"] += 1
         self.counts["struck in a reduction"] += result.struck_in_reduction
@@ -269,18 +165,19 @@ class ListingTally(Tally):
         return found + check_rest(result, plant, case.settings)
 
 
-class CallTally(Tally):
+class CallTally(SearchTally):
     """Of tests and reductions; an answer is checked by brute force."""
 
     def __init__(self):
         super().__init__()
         self.answers = {TEST: Counter(), REDUCE: Counter()}
 
-    def count_run(self, case, result):
-        self.answers[case.kind][ANSWERS[case.kind][result[0] - 1]] += 1
-        self.counts["most trials"] = max(self.counts["most trials"], result[1])
+    def count_run(self, case, want):
+        number, trials = want.words("result")[:ANSWER_WORDS]
+        self.answers[case.kind][ANSWERS[case.kind][number - 1]] += 1
+        self.counts["most trials"] = max(self.counts["most trials"], trials)
 
-    def check_run(self, case, got, plant):
+    def check_found(self, case, got, plant):
         self.counts["brute force"] += 1
         return list(check_answer(case, got, plant))
 
@@ -315,13 +212,10 @@ def call_at(seed, number, tally):
 
 
 def run_cases(driver, seed, numbers, tally, word="case", make=case_at):
-    for first in range(numbers.start, numbers.stop, BATCH):
-        batch = range(first, min(first + BATCH, numbers.stop))
+    for batch in batches(numbers):
         names = [f"seed {seed}, {word} {number}" for number in batch]
         pairs = [make(seed, number, tally) for number in batch]
-        answers = replay(driver, names, [case for case, _ in pairs])
-        for name, (case, want), got in zip(names, pairs, answers):
-            tally.check(name, case, got, want)
+        run_batch(driver, names, pairs, tally)
 
 
 # ---- histories -------------------------------------------------------------
@@ -406,9 +300,7 @@ class History:
 def run_round(driver, histories, place, tally):
     names = [f"{history.name}, run {place}" for history in histories]
     pairs = [history.next_case(histories, tally) for history in histories]
-    answers = replay(driver, names, [case for case, _ in pairs])
-    for history, name, (case, want), got in zip(histories, names, pairs, answers):
-        tally.check(name, case, got, want)
+    for history, got in zip(histories, run_batch(driver, names, pairs, tally)):
         history.take(got)
 
 
@@ -425,9 +317,8 @@ def hold_together(history, tally):
 
 
 def run_histories(driver, seed, sheets, tally):
-    for first in range(0, sheets, BATCH):
-        numbers = range(first, min(first + BATCH, sheets))
-        histories = [History(seed, number) for number in numbers]
+    for batch in batches(range(sheets)):
+        histories = [History(seed, number) for number in batch]
         for place in range(ROUNDS):
             run_round(driver, histories, place, tally)
         for history in histories:
@@ -436,10 +327,6 @@ def run_histories(driver, seed, sheets, tally):
 
 
 # ---- command line ----------------------------------------------------------
-
-
-def in_words(counter):
-    return ", ".join(f"{name} {counter[name]}" for name in sorted(counter)) or "none"
 
 
 def report_calls(tally):
@@ -477,11 +364,12 @@ def main():
     parser.add_argument("driver", help="replay.c, compiled and linked with the archive")
     parser.add_argument("--cases", type=int, default=30_000, help="listings")
     parser.add_argument("--calls", type=int, default=30_000, help="tests and reductions")
-    parser.add_argument("--first", type=int, default=0, help="number of the first case and call")
+    parser.add_argument("--tables", type=int, default=20_000, help="written or read")
+    parser.add_argument("--first", type=int, default=0, help="number of the first of each")
     parser.add_argument("--sheets", type=int, default=1000, help="with a history each")
     parser.add_argument("--seed", type=int, default=1)
     words = parser.parse_args()
-    listings, calls = ListingTally(), CallTally()
+    listings, calls, tables = ListingTally(), CallTally(), TableTally()
     cases = range(words.first, words.first + words.cases)
     run_cases(words.driver, words.seed, cases, listings)
     run_histories(words.driver, words.seed, words.sheets, listings)
@@ -489,7 +377,13 @@ def main():
     numbers = range(words.first, words.first + words.calls)
     run_cases(words.driver, words.seed, numbers, calls, "call", call_at)
     report_calls(calls)
-    sys.exit(1 if listings.counts["differences"] or calls.counts["differences"] else 0)
+    if words.tables and not words.first:
+        run_stored(words.driver, tables)
+    numbers = range(words.first, words.first + words.tables)
+    run_tables(words.driver, words.seed, numbers, tables)
+    report_tables(tables)
+    differ = any(tally.counts["differences"] for tally in (listings, calls, tables))
+    sys.exit(1 if differ else 0)
 
 
 if __name__ == "__main__":

@@ -2,7 +2,7 @@
 
 import sys
 import unittest
-from itertools import product
+from itertools import combinations, product
 from math import prod
 from random import Random
 
@@ -11,6 +11,7 @@ sys.dont_write_bytecode = True
 import listing as listing_module
 import listing_cases
 import sheet_cases
+import table_cases
 import test_cases
 import vectors
 from listing import Settings, export, leading, listing
@@ -18,6 +19,8 @@ from plant import Refusal, encode, fields, pack, read
 from search import Meter, is_false, reduce_call, reduce_within, test, test_call
 from shapes import nogood_plant, random_assignment, random_words
 from shapes import small_random_plant, spoil
+from tables import Tables, grounds, read_tables, sheet_of, tables_of
+from tables import fields as table_fields, write_into, write_tables
 from whole import (
     begins,
     brute_consistent,
@@ -132,6 +135,83 @@ class Sheets(unittest.TestCase):
     def test_end(self):
         self.assertEqual(13, refusal_of(read, SMALL + b"\0"))
         self.assertEqual(12, refusal_of(read, SMALL[:-1] + b"\1"))
+
+
+class Writing(unittest.TestCase):
+    """Tables to a sheet and back, and the refusals of tables."""
+
+    def test_small_plant(self):
+        literals = bytes([0, 1, 0, 1, 1, 0, 2, 0, 1, 2, 0, 0])
+        tables = Tables(2, 1, 2, b"\2\2\2", (0, 3, 0, 3), b"\3\1", literals)
+        self.assertEqual(SMALL, write_tables(tables, 20))
+        self.assertEqual(tables, read_tables(SMALL))
+
+    def test_written_is_read(self):
+        rng = Random(7)
+        plants = [small_random_plant(rng) for _ in range(100)] + sheet_cases.shape_plants(rng)
+        for plant in plants:
+            tables = tables_of(plant)
+            sheet = write_tables(tables, 11_356)
+            self.assertEqual(encode(plant), sheet)
+            self.assertEqual(tables, read_tables(sheet))
+
+    def test_read_is_written(self):
+        lengths = set()
+        for sheet in sheet_cases.sheet_cases():
+            if refusal_of(read, sheet) is None:
+                self.assertEqual(sheet, write_tables(read_tables(sheet), len(sheet)))
+                self.assertEqual(18, refusal_of(write_tables, read_tables(sheet), len(sheet) - 1))
+                lengths.add(len(sheet))
+        self.assertLessEqual({7, 20, 11_356}, lengths)
+
+    def test_buffer(self):
+        tables = read_tables(SMALL)
+        for room in (20, 21, 40):
+            buffer = bytearray(b"\xff" * room)
+            self.assertEqual(20, write_into(tables, buffer))
+            self.assertEqual(SMALL + b"\xff" * (room - 20), buffer)
+        for room in (0, 1, 19):
+            buffer = bytearray(b"\xff" * room)
+            self.assertEqual(18, refusal_of(write_into, tables, buffer))
+            self.assertEqual(b"\xff" * room, buffer)
+
+    def test_each_refusal(self):
+        for numbers, made in [
+            ({16}, table_cases.length_refusals()),
+            ({17}, table_cases.entry_refusals()),
+            ({7, 8, 9}, table_cases.number_refusals()),
+            ({10, 11}, table_cases.literal_refusals()),
+        ]:
+            first = [next(grounds(tables, 12_000), None) for tables in made]
+            self.assertEqual(numbers, set(first))
+
+    def test_order(self):
+        """Of several grounds the first in the order of the checks."""
+        order = list(table_cases.SPOILERS)
+        self.assertEqual([16, 17, 7, 8, 9, 10, 11, 18], order)
+        for size in (1, 2, 3):
+            for numbers in combinations(order, size):
+                writing = table_cases.spoilt(numbers)
+                self.assertEqual(numbers[0], refusal_of(write_tables, *writing[:2]))
+                if 16 not in numbers:
+                    self.assertEqual(numbers, tuple(grounds(*writing[:2])))
+
+    def test_literals_in_turn(self):
+        first = [refusal_of(write_tables, t, 99) for t in table_cases.literal_order()]
+        self.assertEqual([10, 11, 10, 10, 11], first)
+
+    def test_refused_as_read(self):
+        """Where all fields fit their bits, tables and their sheet are refused alike."""
+        rng = Random(8)
+        seen = set()
+        for _ in range(1500):
+            tables = table_cases.damaged_tables(rng, tables_of(small_random_plant(rng)))
+            number = refusal_of(write_tables, tables, 100_000)
+            if number in (16, 17) or any(n >> width for width, n in table_fields(tables)):
+                continue
+            self.assertEqual(number, refusal_of(read, sheet_of(tables)))
+            seen.add(number)
+        self.assertEqual({None, *range(7, 12)}, seen)
 
 
 def prefix_trials(plant, assignment):
@@ -345,22 +425,31 @@ class Stream:
     def number(self, width):
         return int.from_bytes(self.bytes(width), "big")
 
-    def sheet(self):
+    def block(self):
         return self.bytes(self.number(2))
 
     def call(self):
         kind = self.number(1)
-        return test_cases.Call(kind, self.sheet(), *map(self.number, (8, 8, 4)))
+        return test_cases.Call(kind, self.block(), *map(self.number, (8, 8, 4)))
 
     def run(self):
-        lent = self.sheet(), *map(self.number, (4, 2, 2, 2, 2, 2, 4))
+        lent = self.block(), *map(self.number, (4, 2, 2, 2, 2, 2, 4))
         given = tuple(self.number(8) for _ in range(self.number(2)))
         return listing_cases.Run(*lent, given)
+
+    def costs(self):
+        return tuple(self.number(2) for _ in range(self.number(2)))
+
+    def writing(self):
+        numbers = [self.number(4) for _ in range(3)]
+        tables = Tables(*numbers, self.block(), self.costs(), self.block(), self.block())
+        return table_cases.Writing(tables, self.number(2), self.number(1))
 
 
 class Vectors(unittest.TestCase):
     def test_streams(self):
-        readers = {"sheets": Stream.sheet, "tests": Stream.call, "listings": Stream.run}
+        readers = {"sheets": Stream.block, "tests": Stream.call, "listings": Stream.run}
+        readers["tables"] = Stream.writing
         for name, reader in readers.items():
             make, to_bytes, _ = vectors.STREAMS[name]
             cases = make()
@@ -395,6 +484,14 @@ class Vectors(unittest.TestCase):
         lines = {test_cases.call_line(call).split()[0] for call in test_cases.test_cases()}
         names = {"refused", "consistent", "inconsistent", "spent", "none", "conflict"}
         self.assertEqual(names, lines)
+
+    def test_tables(self):
+        cases = table_cases.table_cases()
+        lines = [table_cases.writing_line(case).split() for case in cases]
+        refused = {int(line[1]) for line in lines if line[0] == "refused"}
+        self.assertEqual({*range(7, 12), 16, 17, 18}, refused)
+        written = {int(line[1]) for line in lines if line[0] == "wrote"}
+        self.assertLessEqual({7, 20, 11_356}, written)
 
 
 if __name__ == "__main__":

@@ -6,8 +6,8 @@ use native.Mathlib.Omega.{arith}
 use lib.ListN.{length}
 use Rattle.model.specs.Calls.{Refusal, refusalNumber, Answer, refused, answered, Buffers, ran, listingCall}
 use Rattle.model.specs.Text.{wantedStates, trialLimit, programBuffers, answerText, refusalLine, leadingText}
-use Rattle.text.specs.Written.{written, Puts}
-use Rattle.text.proofs.Writing.{written-length}
+use Rattle.theory.specs.Puts.{written, Puts}
+use Rattle.theory.proofs.Puts.{written-length}
 use Rattle.judge.specs.declared.Ending.{Ending}
 use Rattle.judge.specs.Standing.{endingOf}
 use Rattle.listing.specs.declared.Counts.{Counts}

@@ -11,7 +11,7 @@ ghost use Prim.Native.Nat.{_+_, _≤_};
 ghost use mathlib.Core.Path.{_≡_};
 ghost use lib.ListN.{length};
 ghost use Rattle.model.specs.Text.{endingWord, leadingText};
-ghost use Rattle.text.specs.Written.{written, Puts};
+ghost use Rattle.theory.specs.Puts.{written, Puts};
 ghost use Rattle.judge.specs.Standing.{endingOf};
 ghost use Rattle.answer_text.specs.Room.{runText};
 

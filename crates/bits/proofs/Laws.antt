@@ -1,7 +1,7 @@
 -- A field from the three bytes around its place. Assumes nothing.
 use mathlib.Core.Path.{_≡_, sym, _∙_}
 use mathlib.Core.List.{List}
-use Prim.Native.Nat.{ℕ, _+_, _-_, _*_, _/_, _%_, _^_, _≤_}
+use Prim.Native.Nat.{ℕ, _+_, _-_, _*_, _/_, _%_, _^_, _≤_, _<_}
 use native.Mathlib.Omega.{arith}
 use native.Mathlib.Nat.{one-mul, mod-eq-of-lt}
 use lib.Pow.{pow-lt}
@@ -13,8 +13,8 @@ use Rattle.theory.specs.Digits.{Below}
 use Rattle.theory.proofs.Fields.{word-step, field-word}
 
 -- 1 shifted by w in a u32
-pub one-shifted : (w : ℕ) → w ≤ 16 → 1 * 2 ^ w % 4294967296 ≡ 2 ^ w
-one-shifted w h = rw (one-mul (2 ^ w)) (mod-eq-of-lt (pow-lt {j = 32} (omega arith)))
+pub one-shifted : (w : ℕ) → w < 32 → 1 * 2 ^ w % 4294967296 ≡ 2 ^ w
+one-shifted w h = rw (one-mul (2 ^ w)) (mod-eq-of-lt (pow-lt {j = 32} h))
 
 -- three bytes as one word
 pub three : (sheet : List ℕ) (i : ℕ) → number 256 3 (drop i sheet) ≡ getD sheet i 0 * 65536 + getD sheet (i + 1) 0 * 256 + getD sheet (i + 2) 0
@@ -28,4 +28,4 @@ pub in-three : (sheet : List ℕ) → Below 256 sheet → (place w word after : 
     → bitAnd (word / 2 ^ after) (1 * 2 ^ w % 4294967296 - 1) ≡ number 2 w (bitsAt sheet w place)
 in-three sheet bytes place w word after h p q =
     let e : 8 * (place / 8) + place % 8 ≡ place = omega arith in
-    rw (one-shifted w h, and-mask (word / 2 ^ after) w, p) (rw e at (sym (field-word sheet bytes 3 (place / 8) (place % 8) w after q)))
+    rw (one-shifted w (omega arith), and-mask (word / 2 ^ after) w, p) (rw e at (sym (field-word sheet bytes 3 (place / 8) (place % 8) w after q)))

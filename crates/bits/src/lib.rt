@@ -1,12 +1,19 @@
 // Bit fields of a lent sheet: the unsigned number that stands at a bit place, most significant bit first, or the word that
-// it runs past the end. A field of at most 16 bits is taken from the three bytes around its place. The functions on a slice and
-// a place do the work; the reader further down holds both, and `three` goes through it with plain parameters.
+// it runs past the end; and a number put there. A field of at most 16 bits lies in the three bytes around its place. The
+// functions on a slice and a place do the work; the reader further down holds both, and `three` goes through it with plain
+// parameters.
 ghost use mathlib.Core.Path.{_≡_};
-ghost use Prim.Native.Nat.{_+_, _/_, _%_, _≤_, _<_, _^_};
-ghost use lib.ListN.{getD, drop};
-ghost use Rattle.model.specs.Digits.{number};
+ghost use Prim.Native.Nat.{_+_, _-_, _*_, _/_, _%_, _≤_, _<_, _^_};
+ghost use lib.ListN.{length, getD, drop, set};
+ghost use lib.Seq.{sets};
+ghost use Rattle.model.specs.Digits.{number, digits};
 ghost use Rattle.model.specs.Sheet.{bitsAt, field};
+ghost use Rattle.theory.specs.Puts.{Puts, bitsOf};
 ghost use Rattle.bits.specs.Field.{fieldOf};
+ghost use Rattle.bits.specs.Blend.{blended};
+
+// The least number that is no word of three bytes.
+const ABOVE_WORDS: u32 = 16777216;
 
 // What stands at a place: a number, or nothing because the field runs past the end.
 pub enum Field {
@@ -111,4 +118,42 @@ pub fn three(sheet: &[u8], place: usize, a: usize, b: usize, c: usize) -> Fields
         second,
         third,
     }
+}
+
+// Sets a byte of the sheet: of its bits those in `keep` stay, and those in `field` are set. Past the end there is none.
+fn set_byte(sheet: &mut [u8], i: usize, keep: u32, field: u32)
+    ensures { λ _. ⌜ now (sheet .exit) ≡ set (now (sheet .entry)) i (blended (getD (now (sheet .entry)) i 0) keep field % 256) ⌝ }
+{
+    if i < sheet.len() {
+        sheet[i] = ((sheet[i] as u32 & keep | field) % 256) as u8;
+    }
+}
+
+// Sets the three bytes around a place so. Each by itself: the field before has just set one of them, and a word of all three
+// would wait for it longer.
+fn set_word(sheet: &mut [u8], place: usize, keep: u32, field: u32)
+    ensures { λ _. ⌜ now (sheet .exit) ≡ sets (now (sheet .entry)) (place / 8) (digits 256 3 (blended (number 256 3 (drop (place / 8) (now (sheet .entry)))) keep field)) ⌝ }
+{
+    let i = place / 8;
+    set_byte(sheet, i, keep >> 16, field >> 16);
+    set_byte(sheet, i + 1, keep >> 8, field >> 8);
+    set_byte(sheet, i + 2, keep, field);
+}
+
+// The bits of a word outside a field of w bits that stands so many bits before its end.
+fn outside(w: usize, behind: usize) -> u32
+    requires { ⌜ w + behind ≤ 24 ⌝ }
+    ensures { λ r. ⌜ r ≡ 2 ^ 24 - 2 ^ (w + behind) + (2 ^ behind - 1) ⌝ }
+{
+    ABOVE_WORDS - (1 << (w + behind)) + ((1 << behind) - 1)
+}
+
+// Puts a number as the field of w bits at a place, and answers the place after it. Every other bit stays.
+pub fn put(sheet: &mut [u8], place: usize, w: usize, v: u32) -> usize
+    requires { ⌜ (w ≤ 16) × (v < 2 ^ w) × (place + w ≤ 8 * length (now sheet)) × (place + w < 2 ^ 64) ⌝ }
+    ensures { λ r. ⌜ Puts place (digits 2 w v) (bitsOf (now (sheet .entry))) r (bitsOf (now (sheet .exit))) ⌝ }
+{
+    let rest = after(place, w);
+    set_word(sheet, place, outside(w, rest), v << rest);
+    place + w
 }

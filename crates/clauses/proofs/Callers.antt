@@ -5,7 +5,7 @@ use Prim.Native.Nat.{ℕ, zero, suc, _<_, _≤_}
 use native.Mathlib.Omega.{arith}
 use lib.ListN.{getD, replicate}
 use Rattle.model.specs.Sheet.{Literal}
-use Rattle.theory.specs.Tables.{clauses}
+use Rattle.model.specs.Tables.{clauses}
 use Rattle.theory.proofs.Lists.{all-map}
 use Rattle.clauses.specs.Tables.{Tables}
 

@@ -4,7 +4,7 @@ use mathlib.Core.List.{List}
 use Prim.Native.Nat.{ℕ, _+_, _*_, _/_, _%_, _<_, _≤_}
 use native.Mathlib.Omega.{arith}
 use lib.ListN.{length, getD, take, drop}
-use Rattle.theory.specs.Tables.{literals, clauses}
+use Rattle.model.specs.Tables.{literals, clauses}
 use Rattle.theory.specs.Search.{anyAt, mentions, satisfiedAt}
 use Rattle.theory.proofs.TableClauses.{clauses-length, Along, along-first, along-nth, along-next}
 use Rattle.clauses.specs.Sets.{clauseRows, Entered}

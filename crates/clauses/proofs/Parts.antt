@@ -9,7 +9,7 @@ use Rattle.model.specs.Lists.{All}
 use Rattle.model.specs.Sheet.{Literal}
 use Rattle.model.specs.Assignment.{Assignment}
 use Rattle.model.specs.Consistency.{holdsAt, literalFails, clauseFalse, anyFalse}
-use Rattle.theory.specs.Tables.{literals, clauses}
+use Rattle.model.specs.Tables.{literals, clauses}
 use Rattle.theory.specs.Search.{anyAt, mentions, satisfiedAt}
 use Rattle.theory.proofs.Search.{any-cons}
 use Rattle.theory.proofs.TableClauses.{literalAt, literals-step, literals-end, Along, along-opened, along-end}

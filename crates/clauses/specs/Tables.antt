@@ -4,7 +4,7 @@ use mathlib.Core.List.{List}
 use lib.ListN.{length}
 use Rattle.model.specs.Lists.{All}
 use Rattle.model.specs.Sheet.{Literal}
-use Rattle.theory.specs.Tables.{clauses, total}
+use Rattle.model.specs.Tables.{clauses, total}
 use Rattle.theory.specs.Search.{mentions, satisfiedAt}
 use Rattle.clauses.specs.Numbers.{variables, values, mostClauses, satWords, usesWords}
 use Rattle.clauses.specs.Sets.{SetOf}

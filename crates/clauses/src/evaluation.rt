@@ -9,7 +9,7 @@ ghost use Prim.Native.Nat.{ℕ, _<_};
 ghost use lib.ListN.{length};
 ghost use Rattle.model.specs.Lists.{All};
 ghost use Rattle.model.specs.Consistency.{holdsAt, clauseFalse, anyFalse};
-ghost use Rattle.theory.specs.Tables.{literals, clauses};
+ghost use Rattle.model.specs.Tables.{literals, clauses};
 ghost use Rattle.theory.specs.Search.{nth};
 ghost use Rattle.clauses.specs.Bytes.{given, failsAt};
 ghost use Rattle.clauses.specs.Sets.{bit, inPair, Within};

@@ -8,7 +8,7 @@ use limits::wide;
 ghost use Prim.Native.Nat.{_<_, _≤_};
 ghost use lib.ListN.{length};
 ghost use Rattle.model.specs.Lists.{All};
-ghost use Rattle.theory.specs.Tables.{literals, clauses};
+ghost use Rattle.model.specs.Tables.{literals, clauses};
 ghost use Rattle.clauses.specs.Numbers.{variables, mostClauses, satWords, usesWords};
 ghost use Rattle.clauses.specs.Sets.{Empty, Marked, literalRows, Entered};
 ghost use Rattle.clauses.specs.Tables.{Tables, Prepared};

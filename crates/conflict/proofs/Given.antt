@@ -11,7 +11,8 @@ use Rattle.model.specs.Sheet.{Plant, edition1, decisionSizes}
 use Rattle.model.specs.Assignment.{Assignment, Valid, assignmentOf}
 use Rattle.model.specs.Consistency.{Tested, test, overAll}
 use Rattle.theory.specs.Plant.{Sized}
-use Rattle.theory.specs.Tables.{clauses, Tabled}
+use Rattle.model.specs.Tables.{clauses}
+use Rattle.theory.specs.Tables.{Tabled}
 use Rattle.theory.specs.Words.{Words, byte}
 use Rattle.theory.proofs.Lists.{all-join, all-at}
 use Rattle.theory.proofs.Agreement.{valid-length}

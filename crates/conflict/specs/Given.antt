@@ -5,7 +5,8 @@ use Prim.Native.Nat.{ℕ, _≤_}
 use lib.ListN.{length, getD}
 use Rattle.model.specs.Sheet.{Plant, decisionSizes}
 use Rattle.model.specs.Assignment.{Assignment, Valid}
-use Rattle.theory.specs.Tables.{clauses, Tabled}
+use Rattle.model.specs.Tables.{clauses}
+use Rattle.theory.specs.Tables.{Tabled}
 use Rattle.theory.specs.Words.{Words}
 use Rattle.plan.specs.Plans.{planWords}
 use Rattle.clauses.specs.Tables.{Tables, Prepared}

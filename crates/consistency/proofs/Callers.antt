@@ -8,7 +8,7 @@ use Rattle.model.specs.Sheet.{Plant, edition1, decisionSizes, sizes}
 use Rattle.model.specs.Consistency.{test, overAll}
 use Rattle.model.specs.Lists.{All}
 use Rattle.model.specs.Assignment.{Assignment, Under, Valid}
-use Rattle.theory.specs.Tables.{clauses, total}
+use Rattle.model.specs.Tables.{clauses, total}
 use Rattle.theory.specs.Words.{byte}
 use Rattle.theory.specs.Plant.{Accepted}
 use Rattle.theory.proofs.Lists.{all-map, all-join, all-image}

@@ -9,7 +9,7 @@ use lib.Bits.{bitOr}
 use lib.ListN.{length}
 use Rattle.model.specs.Sheet.{Literal}
 use Rattle.model.specs.Consistency.{clauseFalse, anyFalse, explore}
-use Rattle.theory.specs.Tables.{clauses}
+use Rattle.model.specs.Tables.{clauses}
 use Rattle.theory.specs.Search.{nth}
 use Rattle.theory.proofs.TableClauses.{clauses-length}
 use Rattle.theory.proofs.Search.{false-filled}

@@ -3,7 +3,7 @@ use mathlib.Core.Path.{_≡_}
 use mathlib.Core.List.{List}
 use Prim.Native.Nat.{ℕ, _≤_}
 use lib.ListN.{length, getD}
-use Rattle.theory.specs.Tables.{clauses}
+use Rattle.model.specs.Tables.{clauses}
 use Rattle.clauses.specs.Numbers.{variables, values, unassigned}
 use Rattle.clauses.specs.Tables.{Tables, Prepared}
 

@@ -10,7 +10,7 @@ use clauses::sets::Sat;
 use clauses::sets::USES_WORDS;
 use plan::Plan;
 use trials::Answer;
-ghost use Rattle.theory.specs.Tables.{clauses};
+ghost use Rattle.model.specs.Tables.{clauses};
 ghost use mathlib.Core.List.{map};
 ghost use mathlib.Core.Path.{_≡_};
 ghost use Prim.Native.Nat.{_≤_};

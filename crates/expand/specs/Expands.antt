@@ -6,7 +6,8 @@ use lib.ListN.{length}
 use Rattle.model.specs.Sheet.{Plant}
 use Rattle.model.specs.Assignment.{code}
 use Rattle.model.specs.Order.{orderOf}
-use Rattle.theory.specs.Tables.{clauses, Tabled}
+use Rattle.model.specs.Tables.{clauses}
+use Rattle.theory.specs.Tables.{Tabled}
 use Rattle.plan.specs.Plans.{planWords}
 use Rattle.clauses.specs.Tables.{Prepared}
 use Rattle.children.specs.declared.Node.{Node}

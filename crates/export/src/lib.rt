@@ -1,5 +1,5 @@
-// The calls for a C program, on numbers and lent buffers: each returns a refusal's number, or 0 after its result words were
-// written. `include/leading.h` declares them, and they make the archive that a host links.
+// The calls on a sheet for a C program, on numbers and lent buffers: each returns a refusal's number, or 0 after its result
+// words were written. `include/leading.h` declares them, and with `export_tables` they make the archive that a host links.
 use conflict_call::ReduceAnswer;
 use conflict_call::TestAnswer;
 use conflict_call::reduce_call;
@@ -28,7 +28,7 @@ const TEST_WORDS: usize = 2;
 const SHORT: u32 = 2;
 
 // MAJOR, MINOR and PATCH of the header, a byte each from the third on.
-const VERSION: u32 = 768;
+const VERSION: u32 = 1024;
 
 // The version of these exports, which the header has too.
 #[no_mangle]

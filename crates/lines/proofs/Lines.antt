@@ -11,8 +11,8 @@ use Rattle.model.specs.Order.{Entry}
 use Rattle.model.specs.Calls.{entriesOf}
 use Rattle.model.specs.Text.{decimal, codeDigits, stateLine, stateLines, countsLine, refusalLine}
 use Rattle.theory.proofs.Decimal.{hexadecimal-length}
-use Rattle.text.specs.Written.{Puts}
-use Rattle.text.proofs.Writing.{puts-none, puts-then}
+use Rattle.theory.specs.Puts.{Puts}
+use Rattle.theory.proofs.Puts.{puts-none, puts-then}
 use Rattle.lines.specs.Lines.{lineOf, linesOf, countsOf}
 
 -- ---- lengths

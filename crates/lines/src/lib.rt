@@ -7,7 +7,7 @@ ghost use Prim.Native.Nat.{_+_, _≤_};
 ghost use mathlib.Core.List.{_++_};
 ghost use lib.ListN.{length};
 ghost use Rattle.model.specs.Text.{decimal, refusalLine};
-ghost use Rattle.text.specs.Written.{Puts};
+ghost use Rattle.theory.specs.Puts.{Puts};
 ghost use Rattle.lines.specs.Lines.{lineOf, linesOf, countsOf};
 
 // Hexadecimal digits of a code.

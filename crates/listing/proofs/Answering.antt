@@ -8,7 +8,8 @@ use Rattle.model.specs.Assignment.{code}
 use Rattle.model.specs.Order.{orderOf}
 use Rattle.model.specs.Listing.{Next, listing}
 use Rattle.model.specs.Calls.{Buffers, offersOf, buffersAfter, runOf, calledOf}
-use Rattle.theory.specs.Tables.{clauses, Tabled}
+use Rattle.model.specs.Tables.{clauses}
+use Rattle.theory.specs.Tables.{Tabled}
 use Rattle.plan.specs.Plans.{planWords}
 use Rattle.clauses.specs.Tables.{Prepared}
 use Rattle.store.proofs.Callers.{keeps-room}

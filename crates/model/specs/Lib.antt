@@ -7,6 +7,8 @@ pub mod Conflict
 pub mod Order
 pub mod Listing
 pub mod Calls
+pub mod Tables
+pub mod TableCalls
 pub mod Text
 pub mod Examples
 pub mod Edges
@@ -14,4 +16,5 @@ pub mod Refusals
 pub mod Alone
 pub mod Exports
 pub mod Parts
+pub mod TableExamples
 pub mod TextExamples

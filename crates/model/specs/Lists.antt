@@ -53,6 +53,12 @@ module _ {A : Type 0} where
   abbrev pub filled : List A → List A → List A
   filled xs buffer = xs ++ drop (length xs) buffer
 
+module _ {A B : Type 0} where
+  -- what each member gives, in turn
+  abbrev pub inTurn : (A → List B) → List A → List B
+  inTurn give [] = []
+  inTurn give (x ∷ xs) = give x ++ inTurn give xs
+
 module _ {A : Type 0} (precedes : A → A → Bool) where
   -- an element at its place: before the first member that it precedes
   unfoldable pub place : A → List A → List A

@@ -13,6 +13,13 @@ pub const STATES: usize = VARIABLES - DECISIONS;
 // Bits of the edition with the three counts.
 pub const HEAD_BITS: usize = 29;
 
+// Bits of a domain size, of a cost and of a literal count.
+pub const SIZE_BITS: usize = 4;
+
+pub const COST_BITS: usize = 16;
+
+pub const COUNT_BITS: usize = 4;
+
 // Bits of a literal.
 pub const LITERAL_BITS: usize = 11;
 
@@ -30,6 +37,9 @@ pub const CLAUSE_BYTES: usize = LITERALS * 3;
 
 // Bytes of the table of literals.
 pub const LITERAL_BYTES: usize = COUNT_ENTRIES * CLAUSE_BYTES;
+
+// Words for the numbers of decision variables, of state variables and of clauses.
+pub const NUMBERS: usize = 3;
 
 // A part that is in a table: the place after it, or a refusal.
 pub enum Step {

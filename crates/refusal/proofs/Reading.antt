@@ -6,7 +6,7 @@ use native.Mathlib.Omega.{arith}
 use lib.ListN.{length, take}
 use lib.Seq.{length-take-le, take-take}
 use Rattle.model.specs.Sheet.{Plant, got, edition1, readSheet}
-use Rattle.theory.specs.Tables.{plantOf, Tabled}
+use Rattle.theory.specs.Tables.{plantIn, Tabled}
 use Rattle.theory.proofs.Tables.{plant-from}
 use Rattle.readings.specs.Lengths.{sizeEntries, costEntries, countEntries, literalBytes}
 use Rattle.sheet.specs.declared.Answer.{Answer}
@@ -29,7 +29,7 @@ module _ (sheet sizes costs counts lits : List ℕ) (r : Answer) where
       let v : d + s ≤ length sizes = omega (arith, held .decisions, held .states) in
       let f : take d (take (d + s) sizes) ≡ take d sizes = take-take d (d + s) sizes (omega arith) in
       record {
-        plant = plantOf d s c sizes costs counts lits;
+        plant = plantIn d s c sizes costs counts lits;
         read = read-as sheet sizes costs counts lits e (h .0);
         tabled = record {
           plant = plant-from d s c sizes costs counts lits v;

@@ -1,8 +1,9 @@
 -- A refusal in the code, as the model's. Assumes nothing: these are definitions.
 use mathlib.Core.Option.{Option, none, some}
 use Prim.Native.Nat.{ℕ}
-use Rattle.model.specs.Calls.{Refusal, byHost, byAuthor}
+use Rattle.model.specs.Calls.{Refusal, byHost, byAuthor, Answered, refused, answered}
 use Rattle.refusal.specs.declared.Refusal.{Refusal as Whose}
+use Rattle.refusal.specs.declared.Written.{Written}
 
 -- who caused a refusal, and its number
 abbrev pub refusalOf : Whose → Refusal
@@ -13,3 +14,8 @@ refusalOf (Whose.Author n) = byAuthor n
 abbrev pub groundNumber : Option ℕ → ℕ
 groundNumber none = 0
 groundNumber (some n) = n
+
+-- how many bytes a call wrote, or its refusal
+abbrev pub writtenOf : Written → Answered ℕ
+writtenOf (Written.Refused r) = refused (refusalOf r)
+writtenOf (Written.Bytes n) = answered n

@@ -19,3 +19,9 @@ pub fn number(r: Refusal) -> u32
         Refusal::Author(n) => n,
     }
 }
+
+// What a call that only writes out bytes answers: a refusal, which says whose, or how many bytes it wrote.
+pub enum Written {
+    Refused(Refusal),
+    Bytes(u32),
+}

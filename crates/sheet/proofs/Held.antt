@@ -7,7 +7,8 @@ use lib.ListN.{length, take}
 use Rattle.model.specs.Sheet.{got, refused, edition1, readSheet}
 use Rattle.theory.specs.Plant.{Accepted}
 use Rattle.theory.proofs.Sheet.{accepted}
-use Rattle.theory.specs.Tables.{total, plantOf}
+use Rattle.model.specs.Tables.{total}
+use Rattle.theory.specs.Tables.{plantIn}
 use Rattle.readings.specs.Lengths.{literalBytes}
 use Rattle.sheet.specs.Tables.{Held}
 use Rattle.sheet.specs.Answers.{answerOf, Tabled}
@@ -18,14 +19,14 @@ module _ (sheet sizes costs counts lits : List ℕ) {r : Answer} where
   refused-by e h = sym h ∙ ap (answerOf sheet sizes costs counts lits) e
 
   module _ {d s c : ℕ} (e : r ≡ Answer.Counts d s c) where
-    pub read-as : answerOf sheet sizes costs counts lits r ≡ readSheet edition1 sheet → readSheet edition1 sheet ≡ got (plantOf d s c sizes costs counts lits) (8 * length sheet)
+    pub read-as : answerOf sheet sizes costs counts lits r ≡ readSheet edition1 sheet → readSheet edition1 sheet ≡ got (plantIn d s c sizes costs counts lits) (8 * length sheet)
     read-as h = sym h ∙ ap (answerOf sheet sizes costs counts lits) e
 
     pub read-held : Tabled sizes costs counts lits r → Held d s c sizes costs counts lits
     read-held h = subst (Tabled sizes costs counts lits) e h
 
-    pub read-accepted : answerOf sheet sizes costs counts lits r ≡ readSheet edition1 sheet → Accepted edition1 (plantOf d s c sizes costs counts lits)
-    read-accepted h = accepted sheet (plantOf d s c sizes costs counts lits) (8 * length sheet) (read-as h) .0
+    pub read-accepted : answerOf sheet sizes costs counts lits r ≡ readSheet edition1 sheet → Accepted edition1 (plantIn d s c sizes costs counts lits)
+    read-accepted h = accepted sheet (plantIn d s c sizes costs counts lits) (8 * length sheet) (read-as h) .0
 
 -- the literals are there
 pub held-room : (d s c : ℕ) (sizes costs counts lits : List ℕ) → Held d s c sizes costs counts lits → literalBytes ≤ length lits → 3 * total (take c counts) ≤ length lits

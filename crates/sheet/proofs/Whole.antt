@@ -6,7 +6,8 @@ use lib.ListN.{length, take, drop}
 use lib.Seq.{take-add}
 use Rattle.model.specs.Sheet.{Read, refused, got, many, edition1, readClause, readEnd, Plant}
 use Rattle.theory.proofs.Sheet.{end-got}
-use Rattle.theory.specs.Tables.{rows, clauses, total, plantOf}
+use Rattle.model.specs.Tables.{clauses, total}
+use Rattle.theory.specs.Tables.{rows, plantIn}
 use Rattle.theory.specs.Longest.{clauseBits}
 use Rattle.readings.specs.Lengths.{variablesEnd, clauseBytes}
 use Rattle.readings.proofs.Ways.{on, halt}
@@ -33,13 +34,13 @@ module _ {sheet sizes costs : List ℕ} {d s c place : ℕ} {whole : Read Plant}
   no-clauses v h = sym (halt _ (rw (domains v) h)) ∙ v .rest
 
   module _ {v : VariablesRead sheet sizes costs d s c place whole} {counts lits : List ℕ} {after : ℕ} (r : ClausesRead v counts lits after) where
-    rest-is : readEnd edition1 sheet (plantOf d s c sizes costs counts lits) after ≡ whole
+    rest-is : readEnd edition1 sheet (plantIn d s c sizes costs counts lits) after ≡ whole
     unfolding readRest
     rest-is = sym (on _ (rw (domains v) (r .are)) refl) ∙ v .rest
 
-    pub no-end : {n : ℕ} → readEnd edition1 sheet (plantOf d s c sizes costs counts lits) after ≡ refused n → refused n ≡ whole
+    pub no-end : {n : ℕ} → readEnd edition1 sheet (plantIn d s c sizes costs counts lits) after ≡ refused n → refused n ≡ whole
     no-end h = sym h ∙ rest-is
 
-    pub whole-read : {end : ℕ} → readEnd edition1 sheet (plantOf d s c sizes costs counts lits) after ≡ got (plantOf d s c sizes costs counts lits) end
-        → got (plantOf d s c sizes costs counts lits) (8 * length sheet) ≡ whole
-    whole-read {end} h = ap (got (plantOf d s c sizes costs counts lits)) (sym (end-got edition1 sheet _ after _ end h .1)) ∙ sym h ∙ rest-is
+    pub whole-read : {end : ℕ} → readEnd edition1 sheet (plantIn d s c sizes costs counts lits) after ≡ got (plantIn d s c sizes costs counts lits) end
+        → got (plantIn d s c sizes costs counts lits) (8 * length sheet) ≡ whole
+    whole-read {end} h = ap (got (plantIn d s c sizes costs counts lits)) (sym (end-got edition1 sheet _ after _ end h .1)) ∙ sym h ∙ rest-is

@@ -3,7 +3,7 @@ use Prim.Native.Nat.{ℕ, _*_, _≤_}
 use mathlib.Core.List.{List}
 use lib.ListN.{length}
 use Rattle.model.specs.Sheet.{Plant, Read, refused, got, edition1, readBody}
-use Rattle.theory.specs.Tables.{plantOf}
+use Rattle.theory.specs.Tables.{plantIn}
 use Rattle.theory.specs.Longest.{headBits}
 use Rattle.sheet.specs.Tables.{Held}
 use Rattle.sheet.specs.declared.Answer.{Answer}
@@ -19,7 +19,7 @@ Allowed (Answer.Refused n) = Unit {0}
 
 -- the whole sheet has been read, to its end
 abbrev pub answerOf : (sheet sizes costs counts lits : List ℕ) → Answer → Read Plant
-answerOf sheet sizes costs counts lits (Answer.Counts d s c) = got (plantOf d s c sizes costs counts lits) (8 * length sheet)
+answerOf sheet sizes costs counts lits (Answer.Counts d s c) = got (plantIn d s c sizes costs counts lits) (8 * length sheet)
 answerOf sheet sizes costs counts lits (Answer.Refused n) = refused n
 
 abbrev pub Tabled : (sizes costs counts lits : List ℕ) → Answer → Type 0

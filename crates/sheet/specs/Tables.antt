@@ -3,7 +3,8 @@ use Prim.Native.Nat.{ℕ, _*_, _≤_}
 use mathlib.Core.Path.{_≡_}
 use mathlib.Core.List.{List, map}
 use lib.ListN.{length, take}
-use Rattle.theory.specs.Tables.{total, rows}
+use Rattle.model.specs.Tables.{total}
+use Rattle.theory.specs.Tables.{rows}
 use Rattle.readings.specs.Lengths.{clauseBytes}
 
 -- the counts' bounds, that a row is as long as its size says, and that the literals are there

@@ -1,25 +1,16 @@
 -- How the clauses stand in the tables of counts and literals. Assumes nothing.
 use mathlib.Core.Path.{_≡_, refl, ap, _∙_}
 use mathlib.Core.List.{List, [], _∷_, _++_, append-assoc}
-use Prim.Native.Nat.{ℕ, zero, suc, _+_, _-_, _*_, _≤_, _<_}
+use Prim.Native.Nat.{ℕ, _+_, _-_, _*_, _≤_, _<_}
 use native.Mathlib.Omega.{arith}
 use lib.ListN.{length, take, drop, set, length-drop, take-append-drop}
 use lib.Seq.{take-append-le, drop-append-le, length-take-le, lt-length-set}
 use borrow.Rule.Slice.PartMut.{putMid}
-use Rattle.model.specs.Sheet.{Literal}
-use Rattle.theory.specs.Tables.{literals, clauses, total}
+use Rattle.model.specs.Tables.{literals, clauses, total}
+use Rattle.theory.proofs.TableClauses.{literals-join}
 use Rattle.readings.proofs.Tables.{take-write, given-back}
 
 -- ---- literals
-
-literals-join : (n : ℕ) (xs ys : List ℕ) → length xs ≡ 3 * n → literals (xs ++ ys) ≡ literals xs ++ literals ys
-unfolding literals
-literals-join zero [] ys e = refl
-literals-join zero (v ∷ xs) ys e = absurd (omega arith)
-literals-join (suc n) [] ys e = absurd (omega arith)
-literals-join (suc n) (v ∷ []) ys e = absurd (omega arith)
-literals-join (suc n) (v ∷ s ∷ []) ys e = absurd (omega arith)
-literals-join (suc n) (v ∷ s ∷ x ∷ xs) ys e = ap (λ (ls : List Literal). record { variable = v; sign = s; value = x } ∷ ls) (literals-join n xs ys (omega arith))
 
 -- three bytes more are one literal more
 pub literals-write : (lits : List ℕ) (i v s x : ℕ) → 3 * i + 2 < length lits

@@ -3,7 +3,7 @@ ghost use mathlib.Core.Path.{_≡_};
 ghost use Prim.Native.Nat.{_+_, _*_, _≤_, _<_, _^_};
 ghost use lib.ListN.{length, take};
 ghost use Rattle.model.specs.Sheet.{edition1, many, readLiteral, readClause};
-ghost use Rattle.theory.specs.Tables.{literals, clauses as clausesIn, total};
+ghost use Rattle.model.specs.Tables.{literals, clauses as clausesIn, total};
 ghost use Rattle.theory.specs.Longest.{literalBits, clauseBits};
 ghost use Rattle.readings.specs.Lengths.{clauseBytes, countEntries, literalBytes};
 ghost use Rattle.readings.specs.Answers.{stepOf, Onward, itemOf, Within};

@@ -14,8 +14,8 @@ use Rattle.model.specs.Text.{digitByte}
 use Rattle.theory.specs.Digits.{Fewest}
 use Rattle.theory.proofs.Digits.{digits-length}
 use Rattle.theory.proofs.Decimal.{next-place}
-use Rattle.text.specs.Written.{written}
-use Rattle.text.proofs.Writing.{written-none, written-back}
+use Rattle.theory.specs.Puts.{written}
+use Rattle.theory.proofs.Puts.{written-none, written-back}
 
 -- ---- bytes
 

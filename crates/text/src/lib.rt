@@ -7,7 +7,8 @@ ghost use lib.ListN.{length};
 ghost use Rattle.model.specs.Digits.{digits};
 ghost use Rattle.model.specs.Text.{digitByte, decimal, hexadecimal};
 ghost use Rattle.theory.specs.Digits.{Fewest};
-ghost use Rattle.text.specs.Written.{Puts, greatestBase};
+ghost use Rattle.theory.specs.Puts.{Puts};
+ghost use Rattle.text.specs.Bases.{greatestBase};
 
 // The two bases.
 const DECIMAL: u64 = 10;

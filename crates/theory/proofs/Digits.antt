@@ -2,14 +2,15 @@
 use mathlib.Core.Path.{_≡_, refl, sym, ap, ap₂, _∙_}
 use mathlib.Core.Logic.{_⊎_, inl, inr, _↔_}
 use mathlib.Core.Bool.{_&&_}
-use mathlib.Core.List.{List, [], _∷_, _++_}
+use mathlib.Core.List.{List, [], _∷_, _++_, append-nil}
 use Prim.Native.Nat.{ℕ, zero, suc, _+_, _-_, _*_, _/_, _%_, _^_, _≤_, _<_}
 use native.Mathlib.Omega.{arith}
-use native.Mathlib.Nat.{one-le-pow, pow-succ', pow-zero, mul-assoc, add-mul, zero-mul, suc-mul, mul-add-div-right, mul-add-mod-self-right, mod-lt, mod-one, mod-eq-of-lt, sub-zero, suc-sub-suc, zero-div, zero-mod, zero-add, lt-irrefl}
+use native.Mathlib.Nat.{one-le-pow, pow-succ', pow-zero, mul-assoc, add-mul, zero-mul, suc-mul, mul-add-div-right, mul-add-mod-self-right, mod-lt, mod-one, mod-eq-of-lt, sub-zero, suc-sub-suc, zero-div, zero-mod, zero-add, suc-add, lt-irrefl, div-div-eq-div-mul}
 use native.Mathlib.Numerals.{add-one}
 use native.Mathlib.Decide.{decLt}
 use lib.Seq.{drop-cons}
 use lib.Arith.{digits-lt, digits-div, mod-mul}
+use lib.Pow.{pow-add}
 use lib.Dec.{eqb, eqb·suc-zero}
 use lib.ListN.{length, getD, take, drop, set, replicate, List·getD-append}
 use borrow.Author.Tests.{ne-eqb}
@@ -70,7 +71,7 @@ digits-low b (suc k) q r h =
     rw e (ap₂ (λ (x : ℕ) (xs : List ℕ). x ∷ xs) top low)
 
 -- the digits of zero are zeros
-digits-zero : (b k : ℕ) → digits b k 0 ≡ replicate k 0
+pub digits-zero : (b k : ℕ) → digits b k 0 ≡ replicate k 0
 unfolding digits
 digits-zero b zero = refl
 digits-zero b (suc k) = ap₂ (λ (x : ℕ) (xs : List ℕ). x ∷ xs) (ap (λ (x : ℕ). x % b) (zero-div (b ^ k)) ∙ zero-mod b) (digits-zero b k)
@@ -84,6 +85,43 @@ digits-number b (suc k) [] h l s = rw (sub-zero (suc k)) (digits-zero b (suc k))
 digits-number b (suc k) (d ∷ ds) h l s =
     let r : number b k ds < b ^ k = number-below b k ds h (l .1) in
     rw (digits-div d r, mod-eq-of-lt (l .0), digits-low b k d (number b k ds) h, digits-number b k ds h (l .1) (omega arith), suc-sub-suc k (length ds))
+
+-- the digits of a number made of as many digits are those
+pub digits-made : (b k : ℕ) (ds : List ℕ) → 0 < b → Below b ds → length ds ≡ k → digits b k (number b k ds) ≡ ds
+digits-made b k ds h l e =
+    let none-left : k - length ds ≡ 0 = omega arith in
+    rw (digits-number b k ds h l (omega arith), none-left) (append-nil ds)
+
+-- the digits of a number in two parts: those of the one, then those of the other
+pub digits-join : (b w v x y : ℕ) → 0 < b → y < b ^ v → digits b (w + v) (x * b ^ v + y) ≡ digits b w x ++ digits b v y
+unfolding digits
+digits-join b zero v x y h l = rw (zero-add v) (digits-low b v x y h)
+digits-join b (suc w) v x y h l =
+    let e : w + v ≡ v + w = omega arith in
+    let top : (x * b ^ v + y) / b ^ (w + v) ≡ x / b ^ w = rw (e, pow-add b v w, ← div-div-eq-div-mul (x * b ^ v + y) (b ^ v) (b ^ w), digits-div x l) in
+    rw (suc-add w v, digits, top, digits-join b w v x y h l)
+
+-- a number has no digits past its k places
+pub number-first : (b k : ℕ) (ds : List ℕ) → number b k (take k ds) ≡ number b k ds
+unfolding number
+number-first b zero ds = refl
+number-first b (suc k) [] = refl
+number-first b (suc k) (d ∷ ds) = rw (number-first b k ds)
+
+-- and is the same where the digits are, zeros behind them or not
+pub number-same : (b k : ℕ) (xs ys : List ℕ) → ((v : ℕ) → getD xs v 0 ≡ getD ys v 0) → number b k xs ≡ number b k ys
+unfolding number
+number-same b zero xs ys h = refl
+number-same b (suc k) [] [] h = refl
+number-same b (suc k) [] (y ∷ ys) h =
+    let first : 0 ≡ y = h 0 in
+    rw (← first, ← number-same b k [] ys (λ v. h (suc v)), number-nil b k) (omega (arith, zero-mul (b ^ k)))
+number-same b (suc k) (x ∷ xs) [] h =
+    let first : x ≡ 0 = h 0 in
+    rw (first, number-same b k xs [] (λ v. h (suc v)), number-nil b k) (omega (arith, zero-mul (b ^ k)))
+number-same b (suc k) (x ∷ xs) (y ∷ ys) h =
+    let first : x ≡ y = h 0 in
+    rw (first, number-same b k xs ys (λ v. h (suc v)))
 
 -- a number of zeros is zero
 pub number-zeros : (b k n : ℕ) → number b k (replicate n 0) ≡ 0

@@ -1,6 +1,6 @@
 -- Laws of bit fields, over the width: a field's bound, a field in two parts, and a field by a division of the bytes it lies in. Assumes nothing.
-use mathlib.Core.Path.{_≡_, refl, sym}
-use mathlib.Core.List.{List, [], _∷_}
+use mathlib.Core.Path.{_≡_, refl, sym, ap}
+use mathlib.Core.List.{List, [], _∷_, _++_}
 use Prim.Native.Nat.{ℕ, zero, suc, _+_, _-_, _*_, _/_, _%_, _^_, _≤_, _<_}
 use native.Mathlib.Omega.{arith}
 use native.Mathlib.Nat.{mul-assoc, add-mul, zero-mul, suc-add, pow-succ', zero-add, add-zero, mod-one, mul-add-div-right, mul-add-mod-self-right}
@@ -30,14 +30,27 @@ pub bit-below : (sheet : List ℕ) (place : ℕ) → bitAt sheet place < 2
 unfolding bitAt
 bit-below sheet place = below-at 2 (digits 2 8 (getD sheet (place / 8) 0)) (place % 8) (omega arith) (digits-below 2 8 (getD sheet (place / 8) 0) (omega arith))
 
-bits-below : (sheet : List ℕ) (w place : ℕ) → Below 2 (bitsAt sheet w place)
+-- the w bits from a place on
+pub at-below : (sheet : List ℕ) (w place : ℕ) → Below 2 (bitsAt sheet w place)
 unfolding bitsAt
-bits-below sheet zero place = tt
-bits-below sheet (suc w) place = (bit-below sheet place, bits-below sheet w (place + 1))
+at-below sheet zero place = tt
+at-below sheet (suc w) place = (bit-below sheet place, at-below sheet w (place + 1))
+
+pub at-length : (sheet : List ℕ) (w place : ℕ) → length (bitsAt sheet w place) ≡ w
+unfolding bitsAt
+at-length sheet zero place = refl
+at-length sheet (suc w) place = ap suc (at-length sheet w (place + 1))
+
+pub at-split : (sheet : List ℕ) (v w place : ℕ) → bitsAt sheet (v + w) place ≡ bitsAt sheet v place ++ bitsAt sheet w (place + v)
+unfolding bitsAt
+at-split sheet zero w place = rw (zero-add w, add-zero place)
+at-split sheet (suc v) w place =
+    let e : place + suc v ≡ place + 1 + v = omega arith in
+    rw (suc-add v w, bitsAt, e, at-split sheet v w (place + 1))
 
 -- a field of w bits is below the w-th power of 2
 pub field-below : (sheet : List ℕ) (w place : ℕ) → number 2 w (bitsAt sheet w place) < 2 ^ w
-field-below sheet w place = number-below 2 w (bitsAt sheet w place) (omega arith) (bits-below sheet w place)
+field-below sheet w place = number-below 2 w (bitsAt sheet w place) (omega arith) (at-below sheet w place)
 
 -- a field of v + w bits is the field of its first v bits, then that of its last w
 pub field-split : (sheet : List ℕ) (v w place : ℕ)
@@ -61,7 +74,7 @@ word-step sheet n i = elim (decLt i (length sheet)) [
 ]
 
 -- a power of 256 by a power of 2
-bytes-bits : (n : ℕ) → 256 ^ n ≡ 2 ^ (8 * n)
+pub bytes-bits : (n : ℕ) → 256 ^ n ≡ 2 ^ (8 * n)
 bytes-bits zero = refl
 bytes-bits (suc n) =
     let e : 8 * suc n ≡ 8 + 8 * n = omega arith in

@@ -1,5 +1,6 @@
 pub mod Agreement
 pub mod BestFirst
+pub mod Bits
 pub mod BruteForce
 pub mod Children
 pub mod Containment
@@ -18,10 +19,13 @@ pub mod Longest
 pub mod Moves
 pub mod Nodes
 pub mod Order
+pub mod PlantTables
+pub mod Puts
 pub mod Queue
 pub mod Reduction
 pub mod ReductionSteps
 pub mod ReductionTrials
+pub mod Rewritten
 pub mod Run
 pub mod Search
 pub mod Sheet
@@ -39,4 +43,5 @@ pub mod WordsDigits
 pub mod WordsParallel
 pub mod WordsSet
 pub mod WordsWide
+pub mod WriteRead
 pub mod Written

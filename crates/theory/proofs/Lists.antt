@@ -1,13 +1,14 @@
 -- Laws of Some, All, Pairs and keep. Assumes nothing.
-use mathlib.Core.Path.{_≡_, refl, ap}
+use mathlib.Core.Path.{_≡_, refl, sym, ap}
 use mathlib.Core.Logic.{_⊎_, inl, inr}
-use mathlib.Core.List.{List, [], _∷_, _++_, map}
+use mathlib.Core.List.{List, [], _∷_, _++_, map, append-assoc}
 use mathlib.Core.Bool.{Bool, true, false, _&&_, _||_}
-use Prim.Native.Nat.{ℕ, zero, suc, _+_, _≤_, _<_}
+use Prim.Native.Nat.{ℕ, zero, suc, _+_, _*_, _≤_, _<_}
 use native.Mathlib.Omega.{arith}
+use native.Mathlib.Nat.{mul-zero, mul-suc}
 use lib.Dec.{T}
-use lib.ListN.{length, getD}
-use Rattle.model.specs.Lists.{Some, Mem, All, Pairs, keepIf, keep, valuesFrom}
+use lib.ListN.{length, getD, length-append}
+use Rattle.model.specs.Lists.{Some, Mem, All, Pairs, keepIf, keep, inTurn, valuesFrom}
 use Rattle.theory.specs.Nodes.{sumOf}
 
 module _ {A : Type 0} where
@@ -165,6 +166,16 @@ pairs-swap R swap xs ys p = pairs-join R ys xs (pairs-right R xs ys p) (pairs-le
 pub pairs-zip : {A : Type 0} (P : A → Type 0) (R : A → A → Type 0) (xs : List A) → All P xs → Pairs R xs → Pairs (λ x y. P x × P y × R x y) xs
 pairs-zip P R [] a p = tt
 pairs-zip P R (x ∷ xs) a p = (all-map (λ y c. (a .0, c .0, c .1)) xs (all-zip P (R x) xs (a .1) (p .0)), pairs-zip P R xs (a .1) (p .1))
+
+-- what two lists in a row give in turn is what the one gives, then what the other does
+pub in-turn-join : {A B : Type 0} (give : A → List B) (xs ys : List A) → inTurn give (xs ++ ys) ≡ inTurn give xs ++ inTurn give ys
+in-turn-join give [] ys = refl
+in-turn-join give (x ∷ xs) ys = rw (in-turn-join give xs ys) (sym (append-assoc (give x) (inTurn give xs) (inTurn give ys)))
+
+-- where each member gives w, all give w for each
+pub in-turn-length : {A B : Type 0} (give : A → List B) (w : ℕ) (xs : List A) → All (λ x. length (give x) ≡ w) xs → length (inTurn give xs) ≡ w * length xs
+in-turn-length give w [] h = sym (mul-zero w)
+in-turn-length give w (x ∷ xs) h = omega (arith, h .0, in-turn-length give w xs (h .1), length-append (give x) (inTurn give xs), mul-suc w (length xs))
 
 -- the sum over two lists in a row is the sum of the sums
 pub sum-join : {A : Type 0} (w : A → ℕ) (xs ys : List A) → sumOf w (xs ++ ys) ≡ sumOf w xs + sumOf w ys

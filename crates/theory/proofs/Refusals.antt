@@ -1,6 +1,7 @@
--- Every refusal has one of the numbers of `docs/SPECIFICATION.md`: the host's 1 to 4 before the sheet, the author's 5 to 13. Assumes nothing.
+-- Every refusal has one of the numbers of `docs/SPECIFICATION.md`: of a listing the host's 1 to 4 before the sheet, the author's 5 to 13; of a writing the host's 16 and 18, the author's 17 and 7 to 11. Assumes nothing.
 use mathlib.Core.Path.{_≡_, refl, subst}
 use mathlib.Core.Bool.{Bool, true, false}
+use mathlib.Core.Logic.{inl, inr}
 use mathlib.Core.Option.{Option, none, some}
 use mathlib.Core.List.{List, [], _∷_, _++_, map}
 use Prim.Native.Nat.{ℕ, zero, suc, _+_, _-_, _*_, _%_}
@@ -8,11 +9,14 @@ use native.Mathlib.Omega.{arith}
 use lib.Dec.{ltb, leb, eqb}
 use lib.ListN.{length, getD}
 use Rattle.model.specs.Digits.{number}
-use Rattle.model.specs.Sheet.{Plant, Read, refused, got, bitAt, bitsAt, then, many, field, Edition, edition1, decisionsAllowed, readDecision, readState, readLiteral, readClause, readFiller, readEnd, readBody, readSheet}
-use Rattle.model.specs.Lists.{All}
+use Rattle.model.specs.Sheet.{Literal, Plant, Read, refused, got, bitAt, bitsAt, then, many, field, Edition, edition1, decisionsAllowed, readDecision, readState, readLiteral, readClause, readFiller, readEnd, readBody, readSheet}
+use Rattle.model.specs.Lists.{All, inTurn}
 use Rattle.model.specs.Listing.{Next, ended, more}
 use Rattle.model.specs.Calls.{Refusal, byHost, byAuthor, Ground, firstGiven, refused as turnedDown, Buffers, hostGrounds, calledOf, runOf, listingWith}
-use Rattle.theory.specs.Refusals.{HostNumber, AuthorNumber, RefusalNumber}
+use Rattle.model.specs.Tables.{Tables, literals, plantOf, sheetOf}
+use Rattle.model.specs.TableCalls.{lengthGrounds, literalGrounds, tableGrounds, roomGrounds, writeSheet, writeCall}
+use Rattle.theory.specs.Refusals.{HostNumber, AuthorNumber, RefusalNumber, TableHostNumber, TableAuthorNumber, TableNumber}
+use Rattle.theory.proofs.Lists.{all-join}
 
 -- ---- the author's
 
@@ -128,3 +132,35 @@ listing-refusal sheet k b held limit resultShort r q = go (firstGiven (hostGroun
         ran : (x : Next) → runOf p k b held limit ≡ x → RefusalNumber r
         ran (ended d t) g = absurd (let a = rw (listingWith, e, f, g, calledOf) at q in let z : _≡_ {A = ℕ} 0 1 = cc a in omega arith)
         ran (more t) g = absurd (let a = rw (listingWith, e, f, g, calledOf) at q in let z : _≡_ {A = ℕ} 0 1 = cc a in omega arith)
+
+-- ---- the writing call's
+
+literal-numbers : (domains : List ℕ) (ls : List Literal) → All (λ g. TableAuthorNumber (g .number)) (inTurn (literalGrounds domains) ls)
+unfolding literalGrounds
+literal-numbers domains [] = tt
+literal-numbers domains (l ∷ ls) = all-join (λ g. TableAuthorNumber (g .number)) (literalGrounds domains l) (inTurn (literalGrounds domains) ls) (inr (omega arith, omega arith), (inr (omega arith, omega arith), tt)) (literal-numbers domains ls)
+
+module _ (t : Tables) (buffer : List ℕ) where
+  pub length-number : (n : ℕ) → firstGiven (lengthGrounds t) ≡ some n → TableHostNumber n
+  unfolding lengthGrounds
+  length-number n q = first-number TableHostNumber (lengthGrounds t) (inl refl, tt) n q
+
+  pub table-number : (n : ℕ) → firstGiven (tableGrounds edition1 t) ≡ some n → TableAuthorNumber n
+  unfolding tableGrounds
+  table-number n q = first-number TableAuthorNumber (tableGrounds edition1 t)
+      (inl refl, (inr (omega arith, omega arith), (inr (omega arith, omega arith), (inr (omega arith, omega arith), literal-numbers (t .sizes) (literals (t .literals)))))) n q
+
+  room-number : (n : ℕ) → firstGiven (roomGrounds (sheetOf edition1 (plantOf t)) buffer) ≡ some n → TableHostNumber n
+  unfolding roomGrounds
+  room-number n q = first-number TableHostNumber (roomGrounds (sheetOf edition1 (plantOf t)) buffer) (inr refl, tt) n q
+
+  -- whoever is refused by the writing call, it is by a number of theirs
+  pub table-refusal : (r : Refusal) → writeCall t buffer .answer ≡ turnedDown r → TableNumber r
+  unfolding writeCall writeSheet
+  table-refusal r q = go (firstGiven (lengthGrounds t)) (firstGiven (tableGrounds edition1 t)) (firstGiven (roomGrounds (sheetOf edition1 (plantOf t)) buffer)) refl refl refl
+    where
+      go : (l a m : Option ℕ) → firstGiven (lengthGrounds t) ≡ l → firstGiven (tableGrounds edition1 t) ≡ a → firstGiven (roomGrounds (sheetOf edition1 (plantOf t)) buffer) ≡ m → TableNumber r
+      go (some n) a m e f g = let same : byHost n ≡ r = let x = rw (writeCall, e) at q in cc x in rw (← same) (length-number n e)
+      go none (some n) m e f g = let same : byAuthor n ≡ r = let x = rw (writeCall, e, f) at q in cc x in rw (← same) (table-number n f)
+      go none none (some n) e f g = let same : byHost n ≡ r = let x = rw (writeCall, e, f, writeSheet, g) at q in cc x in rw (← same) (room-number n g)
+      go none none none e f g = absurd (let x = rw (writeCall, e, f, writeSheet, g) at q in let z : _≡_ {A = ℕ} 0 1 = cc x in omega arith)

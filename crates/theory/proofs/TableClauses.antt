@@ -1,14 +1,14 @@
 -- The clauses of decoded tables, read from the front: what stands at a place of the bytes, and what is left after it. Assumes nothing.
 use mathlib.Core.Path.{_≡_, refl, sym, ap, _∙_}
-use mathlib.Core.List.{List, [], _∷_}
-use Prim.Native.Nat.{ℕ, suc, _+_, _*_, _≤_, _<_}
+use mathlib.Core.List.{List, [], _∷_, _++_}
+use Prim.Native.Nat.{ℕ, zero, suc, _+_, _*_, _≤_, _<_}
 use native.Mathlib.Omega.{arith}
 use native.Mathlib.Numerals.{add-one}
 use lib.ListN.{length, getD, take, drop, length-drop, drop-of-length-le}
 use lib.Seq.{drop-cons, drop-drop, getD-drop}
 use Rattle.model.specs.Lists.{All}
 use Rattle.model.specs.Sheet.{Literal}
-use Rattle.theory.specs.Tables.{literals, clauses, total}
+use Rattle.model.specs.Tables.{literals, clauses, total}
 use Rattle.theory.specs.Search.{nth}
 
 -- ---- literals
@@ -35,6 +35,16 @@ literals-end l i h = short (drop i l) (simp length-drop (omega arith))
     short (x ∷ []) h = refl
     short (x ∷ s ∷ []) h = refl
     short (x ∷ s ∷ w ∷ b) h = absurd (omega arith)
+
+-- those of whole literals and of what comes after them
+pub literals-join : (n : ℕ) (xs ys : List ℕ) → length xs ≡ 3 * n → literals (xs ++ ys) ≡ literals xs ++ literals ys
+unfolding literals
+literals-join zero [] ys e = refl
+literals-join zero (v ∷ xs) ys e = absurd (omega arith)
+literals-join (suc n) [] ys e = absurd (omega arith)
+literals-join (suc n) (v ∷ []) ys e = absurd (omega arith)
+literals-join (suc n) (v ∷ s ∷ []) ys e = absurd (omega arith)
+literals-join (suc n) (v ∷ s ∷ x ∷ xs) ys e = ap (λ (ls : List Literal). record { variable = v; sign = s; value = x } ∷ ls) (literals-join n xs ys (omega arith))
 
 -- ---- clauses
 

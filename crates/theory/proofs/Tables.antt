@@ -8,12 +8,13 @@ use lib.Seq.{length-take-le, take-take, take-add, drop-at}
 use Rattle.model.specs.Lists.{All}
 use Rattle.model.specs.Sheet.{Plant, edition1, decisionSizes, sizes}
 use Rattle.theory.specs.Plant.{Sized}
-use Rattle.theory.specs.Tables.{rows, clauses, plantFrom, plantOf, Tabled}
+use Rattle.model.specs.Tables.{clauses}
+use Rattle.theory.specs.Tables.{rows, plantFrom, plantIn, Tabled}
 use Rattle.theory.specs.Words.{HasRows}
 use Rattle.theory.proofs.Lists.{all-image}
 
 -- tables with room to spare hold the plant of their first parts
-pub plant-from : (d s c : ℕ) (sizes costs counts lits : List ℕ) → d + s ≤ length sizes → plantOf d s c sizes costs counts lits ≡ plantFrom d (take (d + s) sizes) costs (take c counts) lits
+pub plant-from : (d s c : ℕ) (sizes costs counts lits : List ℕ) → d + s ≤ length sizes → plantIn d s c sizes costs counts lits ≡ plantFrom d (take (d + s) sizes) costs (take c counts) lits
 plant-from d s c sizes costs counts lits h =
     let a : take d (take (d + s) sizes) ≡ take d sizes = take-take d (d + s) sizes (omega arith) in
     let b : drop d (take (d + s) sizes) ≡ take s (drop d sizes) = rw (take-add d s sizes) (drop-at (take d sizes) (take s (drop d sizes)) d (length-take-le d sizes (omega arith))) in

@@ -1,28 +1,29 @@
 -- Every plant within the rules has a sheet that is read as it, and one of these sheets has the longest's length. Assumes nothing.
-use mathlib.Core.Path.{_≡_, refl, sym, ap}
+use mathlib.Core.Path.{_≡_, refl, ap}
 use mathlib.Core.Bool.{Bool, true, false}
 use mathlib.Core.List.{List, [], _∷_, _++_, map}
 use Prim.Native.Nat.{ℕ, zero, suc, _+_, _-_, _*_, _/_, _%_, _^_, _≤_, _<_}
 use native.Mathlib.Omega.{arith}
-use native.Mathlib.Nat.{zero-mul, suc-mul, min-le-left, add-zero}
+use native.Mathlib.Nat.{mul-comm, min-le-left, add-zero}
 use native.Mathlib.Decide.{decLt}
 use lib.Dec.{ltb, leb, eqb}
 use lib.ListN.{length, getD, take, drop, replicate, length-append, length-take, length-map, length-replicate, List·getD-eq-default}
 use lib.Pow.{pow-pos}
 use lib.Seq.{getD-take, getD-drop}
 use borrow.Author.Tests.{le-leb, lt-ltb, eq-eqb}
-use Rattle.model.specs.Lists.{All}
+use Rattle.model.specs.Lists.{All, inTurn}
 use Rattle.model.specs.Digits.{number, digits}
 use Rattle.model.specs.Sheet.{Literal, Plant, sizes, Read, refused, got, bitAt, bitsAt, then, many, field, Edition, edition1, decisionsAllowed, readDecision, readState, readLiteral, readClause, readFiller, readEnd, readBody, readSheet}
+use Rattle.model.specs.Tables.{decisionWritten, stateWritten, literalWritten, clauseWritten, bodyWritten, plantWritten, packed, sheetOf}
 use Rattle.model.specs.Examples.{tail, small}
 use Rattle.model.specs.Edges.{smallPlant}
 use Rattle.theory.specs.Digits.{Below}
 use Rattle.theory.specs.Longest.{headBits, decisionBits, stateBits, clauseBits, longestSheet}
 use Rattle.theory.specs.Plant.{Sized, Present, Accepted}
-use Rattle.theory.specs.Written.{inTurn, decisionWritten, stateWritten, literalWritten, clauseWritten, bodyWritten, plantWritten, packed, sheetOf, firstLiteral, fullPlant, largestPlant}
+use Rattle.theory.specs.Written.{firstLiteral, fullPlant, largestPlant}
 use Rattle.theory.proofs.Digits.{digits-length, digits-below, digits-number, number-digits}
 use Rattle.theory.proofs.Fields.{below-drop}
-use Rattle.theory.proofs.Lists.{all-map, all-join, all-zip, all-image, all-at}
+use Rattle.theory.proofs.Lists.{all-map, all-join, all-zip, all-image, all-at, in-turn-length}
 
 -- ---- bytes and their bits
 
@@ -32,17 +33,17 @@ zero-at zero v = refl
 zero-at (suc n) zero = refl
 zero-at (suc n) (suc v) = zero-at n v
 
-zeros-behind : (ds : List ℕ) (n v : ℕ) → getD (ds ++ replicate n 0) v 0 ≡ getD ds v 0
+pub zeros-behind : (ds : List ℕ) (n v : ℕ) → getD (ds ++ replicate n 0) v 0 ≡ getD ds v 0
 zeros-behind [] n v = zero-at n v
 zeros-behind (d ∷ ds) n zero = refl
 zeros-behind (d ∷ ds) n (suc v) = zeros-behind ds n v
 
-below-take : (b n : ℕ) (ds : List ℕ) → Below b ds → Below b (take n ds)
+pub below-take : (b n : ℕ) (ds : List ℕ) → Below b ds → Below b (take n ds)
 below-take b zero ds h = tt
 below-take b (suc n) [] h = tt
 below-take b (suc n) (d ∷ ds) h = (h .0, below-take b n ds (h .1))
 
-packed-length : (n : ℕ) (bits : List ℕ) → length (packed n bits) ≡ n
+pub packed-length : (n : ℕ) (bits : List ℕ) → length (packed n bits) ≡ n
 unfolding packed
 packed-length zero bits = refl
 packed-length (suc n) bits = ap suc (packed-length n (drop 8 bits))
@@ -231,7 +232,7 @@ module _ (e : Edition) (sheet : List ℕ) where
       rule-comes (leb (length (p .clauses)) 512) 9 _ x (le-leb (length (p .clauses)) 512 (ok .clauses))
       (body-reads p x (0 + length edition + length decisions + length states + length clauses) (length (plantWritten e p)) few ok h is f))))))))
 
-below-in-turn : {A : Type 0} (bits : A → List ℕ) → ((a : A) → Below 2 (bits a)) → (xs : List A) → Below 2 (inTurn bits xs)
+pub below-in-turn : {A : Type 0} (bits : A → List ℕ) → ((a : A) → Below 2 (bits a)) → (xs : List A) → Below 2 (inTurn bits xs)
 below-in-turn bits f [] = tt
 below-in-turn bits f (x ∷ xs) = all-join (λ d. d < 2) (bits x) (inTurn bits xs) (f x) (below-in-turn bits f xs)
 
@@ -254,7 +255,7 @@ module _ (e : Edition) (p : Plant) where
       join : (xs ys : List ℕ) → Below 2 xs → Below 2 ys → Below 2 (xs ++ ys)
       join = all-join (λ d. d < 2)
 
-  written-length : length (plantWritten e p) ≡ headBits + length (inTurn (decisionWritten e) (p .costs)) + length (inTurn stateWritten (p .states)) + length (inTurn clauseWritten (p .clauses))
+  pub written-length : length (plantWritten e p) ≡ headBits + length (inTurn (decisionWritten e) (p .costs)) + length (inTurn stateWritten (p .states)) + length (inTurn clauseWritten (p .clauses))
   unfolding plantWritten
   written-length =
       let rows : List ℕ = inTurn (decisionWritten e) (p .costs) in
@@ -278,7 +279,7 @@ module _ (e : Edition) (p : Plant) where
         digits-length 2 10 (length (p .clauses)),
       )
 
-  sheet-length : length (sheetOf e p) ≡ (length (plantWritten e p) + 7) / 8
+  pub sheet-length : length (sheetOf e p) ≡ (length (plantWritten e p) + 7) / 8
   unfolding sheetOf
   sheet-length = packed-length ((length (plantWritten e p) + 7) / 8) (plantWritten e p)
 
@@ -296,13 +297,13 @@ module _ (e : Edition) (p : Plant) where
 
 -- ---- the longest sheet is one
 
-in-turn-length : {A : Type 0} (bits : A → List ℕ) (n w : ℕ) (a : A) → length (bits a) ≡ w → length (inTurn bits (replicate n a)) ≡ n * w
-in-turn-length bits zero w a h = sym (zero-mul w)
-in-turn-length bits (suc n) w a h = omega (arith, length-append (bits a) (inTurn bits (replicate n a)), in-turn-length bits n w a h, suc-mul n w)
-
 all-replicate : {A : Type 0} (P : A → Type 0) (n : ℕ) (a : A) → P a → All P (replicate n a)
 all-replicate P zero a h = tt
 all-replicate P (suc n) a h = (h, all-replicate P n a h)
+
+-- what n members alike give
+alike-length : {A : Type 0} (bits : A → List ℕ) (n w : ℕ) (a : A) → length (bits a) ≡ w → length (inTurn bits (replicate n a)) ≡ n * w
+alike-length bits n w a h = omega (arith, in-turn-length bits w (replicate n a) (all-replicate (λ x. length (bits x) ≡ w) n a h), mul-comm w n, ap (λ (m : ℕ). w * m) (length-replicate n a))
 
 -- the first literal is present where there is a decision variable of sixteen values
 first-present : (n : ℕ) (rest : List ℕ) → 1 ≤ n → Present (map length (replicate n (replicate {A = ℕ} 16 0)) ++ rest) firstLiteral
@@ -328,7 +329,7 @@ module _ (e : Edition) where
   full-allowed d s c one most = rw (length-replicate d (replicate {A = ℕ} 16 0), decisionsAllowed, le-leb 1 d one, le-leb d (e .most) most)
 
   row-bits : length (decisionWritten e (replicate 16 0)) ≡ decisionBits e
-  row-bits = omega (arith, length-append (digits 2 4 15) (inTurn (digits 2 (e .costBits)) (replicate 16 0)), digits-length 2 4 15, in-turn-length (digits 2 (e .costBits)) 16 (e .costBits) 0 (digits-length 2 (e .costBits) 0))
+  row-bits = omega (arith, length-append (digits 2 4 15) (inTurn (digits 2 (e .costBits)) (replicate 16 0)), digits-length 2 4 15, alike-length (digits 2 (e .costBits)) 16 (e .costBits) 0 (digits-length 2 (e .costBits) 0))
 
   clause-bits : length (clauseWritten (replicate 15 firstLiteral)) ≡ clauseBits
   unfolding digits
@@ -336,7 +337,7 @@ module _ (e : Edition) where
 
   full-bits : (d s c : ℕ) → length (plantWritten e (fullPlant d s c)) ≡ headBits + d * decisionBits e + s * stateBits + c * clauseBits
   unfolding fullPlant
-  full-bits d s c = omega (arith, written-length e (fullPlant d s c), in-turn-length (decisionWritten e) d (decisionBits e) (replicate 16 0) row-bits, in-turn-length stateWritten s stateBits 1 (digits-length 2 4 0), in-turn-length clauseWritten c clauseBits (replicate 15 firstLiteral) clause-bits)
+  full-bits d s c = omega (arith, written-length e (fullPlant d s c), alike-length (decisionWritten e) d (decisionBits e) (replicate 16 0) row-bits, alike-length stateWritten s stateBits 1 (digits-length 2 4 0), alike-length clauseWritten c clauseBits (replicate 15 firstLiteral) clause-bits)
 
   -- a sheet of the longest's length is accepted
   pub longest-attained : e .number < 2 ^ 8 → 1 ≤ e .most → e .most < 2 ^ 5

@@ -6,10 +6,12 @@ pub mod Longest
 pub mod Nodes
 pub mod Order
 pub mod Plant
+pub mod Puts
 pub mod Refusals
 pub mod Run
 pub mod Search
 pub mod Tables
 pub mod TwoRuns
 pub mod Words
+pub mod WriteRead
 pub mod Written

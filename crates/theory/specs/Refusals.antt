@@ -1,4 +1,6 @@
 -- Which numbers a refusal has, by whom it blames. Assumes nothing: these are definitions.
+use mathlib.Core.Path.{_≡_}
+use mathlib.Core.Logic.{_⊎_}
 use Prim.Native.Nat.{ℕ, _≤_}
 use Rattle.model.specs.Calls.{Refusal, byHost, byAuthor}
 
@@ -14,3 +16,15 @@ AuthorNumber n = (5 ≤ n) × (n ≤ 13)
 abbrev pub RefusalNumber : Refusal → Type 0
 RefusalNumber (byHost n) = HostNumber n
 RefusalNumber (byAuthor n) = AuthorNumber n
+
+-- of tables: the host's, and the author's
+abbrev pub TableHostNumber : ℕ → Type 0
+TableHostNumber n = (n ≡ 16) ⊎ (n ≡ 18)
+
+abbrev pub TableAuthorNumber : ℕ → Type 0
+TableAuthorNumber n = (n ≡ 17) ⊎ ((7 ≤ n) × (n ≤ 11))
+
+-- those of whom a writing's refusal blames
+abbrev pub TableNumber : Refusal → Type 0
+TableNumber (byHost n) = TableHostNumber n
+TableNumber (byAuthor n) = TableAuthorNumber n

@@ -1,27 +1,11 @@
 -- The plant that decoded tables hold. Assumes nothing: these are definitions.
-use Prim.Native.Nat.{ℕ, _+_, _*_, _≤_}
+use Prim.Native.Nat.{ℕ, _*_, _≤_}
 use mathlib.Core.Path.{_≡_}
 use mathlib.Core.List.{List, [], _∷_, map}
 use lib.ListN.{length, take, drop}
-use Rattle.model.specs.Sheet.{Literal, Plant, edition1}
+use Rattle.model.specs.Sheet.{Plant, edition1}
+use Rattle.model.specs.Tables.{Tables, total, clauses}
 use Rattle.theory.specs.Plant.{Accepted}
-
--- the literals that the bytes hold: variable, sign, value, three bytes each
-unfoldable pub literals : List ℕ → List Literal
-literals [] = []
-literals (v ∷ []) = []
-literals (v ∷ s ∷ []) = []
-literals (v ∷ s ∷ x ∷ bytes) = record { variable = v; sign = s; value = x } ∷ literals bytes
-
--- the clauses: the first has as many literals as the first count says, and so on, without gaps
-unfoldable pub clauses : List ℕ → List ℕ → List (List Literal)
-clauses [] bytes = []
-clauses (n ∷ counts) bytes = literals (take (3 * n) bytes) ∷ clauses counts (drop (3 * n) bytes)
-
--- the number of literals in all
-unfoldable pub total : List ℕ → ℕ
-total [] = 0
-total (n ∷ counts) = n + total counts
 
 -- the costs: each decision variable has sixteen entries, of which the first are its costs, as many as its size; the others say nothing
 unfoldable pub rows : List ℕ → List ℕ → List (List ℕ)
@@ -29,8 +13,8 @@ rows [] costs = []
 rows (n ∷ sizes) costs = take n (take 16 costs) ∷ rows sizes (drop 16 costs)
 
 -- the plant that the tables hold: d decision variables, s state variables, c clauses
-abbrev pub plantOf : (d s c : ℕ) (sizes costs counts lits : List ℕ) → Plant
-plantOf d s c sizes costs counts lits = record {
+abbrev pub plantIn : (d s c : ℕ) (sizes costs counts lits : List ℕ) → Plant
+plantIn d s c sizes costs counts lits = record {
   costs = rows (take d sizes) costs;
   states = take s (drop d sizes);
   clauses = clauses (take c counts) lits;
@@ -52,3 +36,7 @@ pub record Tabled (p : Plant) (d : ℕ) (sizes costs counts lits : List ℕ) : T
   pub lengths : map length (rows (take d sizes) costs) ≡ take d sizes
   pub cost-room : 16 * d ≤ length costs
   pub literal-room : 3 * total counts ≤ length lits
+
+-- tables as a call is given them: the three numbers and the four tables
+abbrev pub tablesGiven : (d s c : ℕ) (sizes costs counts literals : List ℕ) → Tables
+tablesGiven d s c sizes costs counts literals = record { decisions = d; states = s; clauses = c; sizes = sizes; costs = costs; counts = counts; literals = literals }

@@ -49,6 +49,19 @@ pub fn mixed_u64(hash: u32, n: u64) -> u32
     )
 }
 
+// The checksum with the numbers of a slice, two bytes each.
+pub fn mixed_all_u16(hash: u32, numbers: &[u16]) -> u32
+    ensures { λ r. ⌜ r ≡ over mix16 hash (now (numbers .entry)) ⌝ }
+{
+    let mut h = hash;
+    let mut i = 0;
+    while i < numbers.len() {
+        h = mixed_u16(h, numbers[i]);
+        i += 1;
+    }
+    h
+}
+
 // The checksum with the numbers of a slice, four bytes each.
 pub fn mixed_all_u32(hash: u32, numbers: &[u32]) -> u32
     ensures { λ r. ⌜ r ≡ over mix32 hash (now (numbers .entry)) ⌝ }

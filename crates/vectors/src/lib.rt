@@ -6,6 +6,7 @@ mod input;
 pub use checksum::CHECKSUM_START;
 pub use checksum::mixed;
 pub use checksum::mixed_all;
+pub use checksum::mixed_all_u16;
 pub use checksum::mixed_all_u32;
 pub use checksum::mixed_all_u64;
 pub use checksum::mixed_u16;

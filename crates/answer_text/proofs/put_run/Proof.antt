@@ -5,7 +5,7 @@ use borrow.Author.Needs.{needs}
 use Rattle.model.specs.Text.{endingWord, countsLine, endingLine}
 use Rattle.judge.specs.Standing.{endingOf}
 use Rattle.listing.specs.Listing.{countsOf}
-use Rattle.text.proofs.Writing.{puts-then}
+use Rattle.theory.proofs.Puts.{puts-then}
 use Rattle.lines.specs.Lines.{linesOf}
 use Rattle.answer_text.proofs.Room.{run-length}
 use Rattle.answer_text.proofs.put_run.Statement.{statement}

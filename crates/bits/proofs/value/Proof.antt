@@ -26,7 +26,7 @@ shl-result : tie.Need-shl-result
 shl-result c = search needs
 
 sub-result : tie.Need-sub-result
-sub-result c = rw (one-shifted (c .before .before .before .args .w) (c .before .before .before .pre)) (pow-pos (c .before .before .before .args .w))
+sub-result c = rw (one-shifted (c .before .before .before .args .w) (omega arith)) (pow-pos (c .before .before .before .args .w))
 
 returns : tie.Need-returns
 returns c =

@@ -4,7 +4,7 @@ use native.Mathlib.Omega.{arith}
 use borrow.Author.Needs.{needs}
 use lib.ListN.{length}
 use Rattle.model.specs.Text.{bytes, decimal, countsLine}
-use Rattle.text.proofs.Writing.{puts-then, puts-pair}
+use Rattle.theory.proofs.Puts.{puts-then, puts-pair}
 use Rattle.lines.proofs.Lines.{counts-length}
 use Rattle.lines.proofs.put_counts.Statement.{statement}
 use Rattle.lines.proofs.put_counts.Tie as tie

@@ -1,7 +1,7 @@
 -- `lines::put_named` meets its contract: the number is put after the word. Assumes nothing.
 use native.Mathlib.Omega.{arith}
 use borrow.Author.Needs.{needs}
-use Rattle.text.proofs.Writing.{puts-then}
+use Rattle.theory.proofs.Puts.{puts-then}
 use Rattle.lines.proofs.put_named.Statement.{statement}
 use Rattle.lines.proofs.put_named.Tie as tie
 

@@ -2,7 +2,7 @@
 use native.Mathlib.Omega.{arith}
 use borrow.Author.Needs.{needs}
 use Rattle.model.specs.Text.{refusalLine}
-use Rattle.text.proofs.Writing.{puts-then}
+use Rattle.theory.proofs.Puts.{puts-then}
 use Rattle.lines.proofs.Lines.{refusal-length}
 use Rattle.lines.proofs.put_refusal.Statement.{statement}
 use Rattle.lines.proofs.put_refusal.Tie as tie

@@ -3,7 +3,7 @@ use native.Mathlib.Omega.{arith}
 use borrow.Author.Needs.{needs}
 use Rattle.model.specs.Text.{space, codeDigits, decimal, stateLine}
 use Rattle.theory.proofs.Decimal.{hexadecimal-length}
-use Rattle.text.proofs.Writing.{puts-then, puts-pair}
+use Rattle.theory.proofs.Puts.{puts-then, puts-pair}
 use Rattle.lines.proofs.Lines.{line-length}
 use Rattle.lines.proofs.put_state.Statement.{statement}
 use Rattle.lines.proofs.put_state.Tie as tie

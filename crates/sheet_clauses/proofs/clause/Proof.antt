@@ -6,7 +6,7 @@ use native.Mathlib.Omega.{arith}
 use lib.ListN.{length, take, length-set}
 use Rattle.model.specs.Sheet.{edition1, readLiteral, readClause, got}
 use Rattle.theory.proofs.Sheet.{field-got}
-use Rattle.theory.specs.Tables.{literals}
+use Rattle.model.specs.Tables.{literals}
 use Rattle.sheet_clauses.proofs.Tables.{literals-write}
 use Rattle.theory.specs.Longest.{literalBits}
 use Rattle.readings.proofs.Laws.{Reading, turn, stop, done, was-value, was-past}

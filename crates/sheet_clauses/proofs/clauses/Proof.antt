@@ -5,7 +5,7 @@ use mathlib.Core.Path.{_≡_, refl, sym, ap, _∙_}
 use native.Mathlib.Omega.{arith}
 use lib.ListN.{length, take, set, length-set, length-take, length-drop}
 use Rattle.model.specs.Sheet.{edition1, many, readClause, got}
-use Rattle.theory.specs.Tables.{clauses, total}
+use Rattle.model.specs.Tables.{clauses, total}
 use Rattle.theory.specs.Longest.{clauseBits}
 use Rattle.readings.specs.Lengths.{clauseBytes}
 use Rattle.readings.proofs.Tables.{take-write}

@@ -4,7 +4,7 @@ use mathlib.Core.List.{map}
 use Prim.Native.Nat.{_+_, _*_, _-_}
 use lib.ListN.{length, drop}
 use Rattle.model.specs.Consistency.{anyFalse}
-use Rattle.theory.specs.Tables.{clauses}
+use Rattle.model.specs.Tables.{clauses}
 use Rattle.theory.proofs.TableClauses.{clauses-length, Along, along-first, along-room, along-below, along-next, along-nth}
 use Rattle.clauses.specs.Bytes.{given}
 use Rattle.theory.proofs.Search.{nth-any}

@@ -6,7 +6,7 @@ use borrow.Author.Tests.{not-true, not-false}
 use lib.ListN.{length, drop}
 use Rattle.model.specs.Lists.{All}
 use Rattle.model.specs.Consistency.{clauseFalse}
-use Rattle.theory.specs.Tables.{literals}
+use Rattle.model.specs.Tables.{literals}
 use Rattle.clauses.specs.Bytes.{given}
 use Rattle.clauses.proofs.Parts.{below-step, false-step, false-end}
 use native.Mathlib.Omega.{arith}

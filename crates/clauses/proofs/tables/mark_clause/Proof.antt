@@ -3,7 +3,7 @@ use mathlib.Core.Path.{_≡_, refl, _∙_}
 use Prim.Native.Nat.{_-_, _≤_, _<_}
 use lib.ListN.{length, drop}
 use Rattle.model.specs.Lists.{All}
-use Rattle.theory.specs.Tables.{literals}
+use Rattle.model.specs.Tables.{literals}
 use Rattle.theory.specs.Search.{mentions}
 use Rattle.clauses.specs.Numbers.{variables}
 use Rattle.clauses.specs.Sets.{clauseRows}

@@ -1,8 +1,10 @@
--- What a lent buffer holds after a text was put into it. Assumes nothing: these are definitions.
+-- What a lent buffer holds after a text was put into it, byte by byte or bit by bit. Assumes nothing: these are definitions.
 use mathlib.Core.Path.{_≡_}
 use mathlib.Core.List.{List, _++_}
 use Prim.Native.Nat.{ℕ, _+_}
 use lib.ListN.{length, take, drop}
+use Rattle.model.specs.Lists.{inTurn}
+use Rattle.model.specs.Digits.{digits}
 
 -- the bytes before a place as they were, the text, and the bytes after it as they were
 unfoldable pub written : (place : ℕ) (text before : List ℕ) → List ℕ
@@ -13,6 +15,6 @@ pub record Puts (place : ℕ) (text before : List ℕ) (next : ℕ) (after : Lis
   pub buffer : after ≡ written place text before
   pub ends : next ≡ place + length text
 
--- the greatest base whose digits have bytes
-abbrev pub greatestBase : ℕ
-greatestBase = 16
+-- the bits of bytes, most significant first: a sheet as it is read and written
+abbrev pub bitsOf : List ℕ → List ℕ
+bitsOf bytes = inTurn (digits 2 8) bytes

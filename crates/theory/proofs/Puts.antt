@@ -1,12 +1,14 @@
--- Laws of a buffer with a text put into it: one byte before the text, and one text after another. Assumes nothing.
-use mathlib.Core.Path.{_≡_, sym, ap₂, _∙_}
+-- Laws of a buffer with a text put into it: one byte before the text, one text after another, and a text put part by part. Assumes nothing.
+use mathlib.Core.Path.{_≡_, refl, sym, ap, ap₂, _∙_}
 use mathlib.Core.List.{List, [], _∷_, _++_, append-assoc, append-nil}
 use Prim.Native.Nat.{ℕ, suc, _+_, _-_, _≤_, _<_}
 use native.Mathlib.Omega.{arith}
 use native.Mathlib.Nat.{add-zero}
-use lib.ListN.{length, getD, take, drop, set, length-append, length-drop, take-append-drop}
-use lib.Seq.{length-take-le, take-suc, set-at, take-at, drop-append-add, drop-drop}
-use Rattle.text.specs.Written.{written, Puts}
+use native.Mathlib.Numerals.{add-one}
+use lib.ListN.{length, getD, take, drop, set, length-append, length-drop, take-append-drop, drop-of-length-le}
+use lib.Seq.{length-take-le, take-suc, set-at, take-at, drop-append-add, drop-cons, drop-drop}
+use Rattle.model.specs.Lists.{inTurn}
+use Rattle.theory.specs.Puts.{written, Puts}
 
 -- what stands before the rest is as long as it should be
 head-length : (place : ℕ) (text before : List ℕ) → place ≤ length before → length (take place before ++ text) ≡ place + length text
@@ -23,7 +25,7 @@ unfolding written
 written-none place before = rw (append-nil (take place before), add-zero place) (take-append-drop place before)
 
 -- what is left n places past a first list
-drop-past : (xs ys : List ℕ) (m n : ℕ) → length xs ≡ m → drop (m + n) (xs ++ ys) ≡ drop n ys
+pub drop-past : (xs ys : List ℕ) (m n : ℕ) → length xs ≡ m → drop (m + n) (xs ++ ys) ≡ drop n ys
 drop-past xs ys m n e = rw (← e) (drop-append-add xs ys n)
 
 -- one text put after another is the two put as one
@@ -71,3 +73,43 @@ module _ {place mid next : ℕ} {before between after : List ℕ} (within : plac
   -- two texts after what was put
   pub puts-pair : (t u : List ℕ) {s : List ℕ} → Puts place s before mid between → Puts mid (t ++ u) between next after → Puts place (s ++ t ++ u) before next after
   puts-pair t u {s} p q = rw (append-assoc s t u) (puts-then p q)
+
+-- ---- a text put part by part, as a loop does
+
+-- what stands before the rest of a text was put at a place
+pub record PutsBefore (place : ℕ) (text rest before : List ℕ) (next : ℕ) (after : List ℕ) : Type 0 where
+  pub part : List ℕ
+  pub puts : Puts place part before next after
+  pub whole : part ++ rest ≡ text
+
+pub part-start : (place : ℕ) (text before : List ℕ) → PutsBefore place text text before place before
+part-start place text before = record { part = []; puts = puts-none place before; whole = refl }
+
+module _ {place mid : ℕ} {text rest before between : List ℕ} (p : PutsBefore place text rest before mid between) where
+  -- the part that comes next finds room where the text does
+  pub part-room : (new more : List ℕ) (room : ℕ) → rest ≡ new ++ more → place + length text ≤ room → mid + length new ≤ room
+  part-room new more room e h =
+      let a : length (p .part) + length rest ≡ length text = sym (length-append (p .part) rest) ∙ ap length (p .whole) in
+      let b : length rest ≡ length new + length more = ap length e ∙ length-append new more in
+      omega (arith, p .puts .ends)
+
+  -- one part more
+  pub part-step : {new more : List ℕ} {next : ℕ} {after : List ℕ} → place ≤ length before → rest ≡ new ++ more → Puts mid new between next after → PutsBefore place text more before next after
+  part-step {new} {more} h e q = record {
+    part = p .part ++ new;
+    puts = puts-then h (p .puts) q;
+    whole = append-assoc (p .part) new more ∙ ap (λ (t : List ℕ). p .part ++ t) (sym e) ∙ p .whole;
+  }
+
+pub part-end : {place next : ℕ} {text rest before after : List ℕ} → rest ≡ [] → PutsBefore place text rest before next after → Puts place text before next after
+part-end e p =
+    let f : p .part ≡ _ = sym (append-nil (p .part)) ∙ ap (λ (t : List ℕ). p .part ++ t) (sym e) ∙ p .whole in
+    rw f at (p .puts)
+
+-- what the members from place i on give in turn: what the one there gives, then the others
+pub in-turn-next : {A : Type 0} (give : A → List ℕ) (xs : List A) (i : ℕ) (d : A) → i < length xs → inTurn give (drop i xs) ≡ give (getD xs i d) ++ inTurn give (drop (i + 1) xs)
+in-turn-next give xs i d h = rw (drop-cons xs i d h, add-one i)
+
+-- past the last member there is nothing
+pub in-turn-past : {A : Type 0} (give : A → List ℕ) (xs : List A) (i : ℕ) → length xs ≤ i → inTurn give (drop i xs) ≡ []
+in-turn-past give xs i h = rw (drop-of-length-le xs h)
