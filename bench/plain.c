@@ -255,10 +255,10 @@ static enum ending steps(struct run *r, size_t held)
     r->queued = 1;
     enum ending ending = GOING_ON;
     while (ending == GOING_ON) {
-        if (r->listed == r->k)
-            return ENOUGH;
         if (r->queued == 0)
             return ALL;
+        if (r->listed == r->k)
+            return ENOUGH;
         struct node node = remove_first(r);
         ending = take_node(r, &node);
     }

@@ -188,10 +188,10 @@ static enum ending steps(struct run *r, size_t held)
     push(r->queue, r->queued++, root(r));
     enum ending ending = GOING_ON;
     while (ending == GOING_ON) {
-        if (r->listed == r->k)
-            return ENOUGH;
         if (r->queued == 0)
             return ALL;
+        if (r->listed == r->k)
+            return ENOUGH;
         struct entry first = pop(r->queue, r->queued--);
         ending = take_node(r, first);
     }

@@ -12,8 +12,9 @@ program over it and names what that prints. `sheet` writes the sheet of a text.
 `text` writes a text of a sheet, with made-up names (p0, h0, s0). `tables` prints
 the tables of a text as leading_tables takes them. `names` reads what the host or
 the program `leading` printed, names in each line the parts that are not in their
-first state, and says conflicts in words. `check` holds FILE.sheet to FILE.plant,
-and takes both there and back. README.md says what a text looks like.
+first state, and says in words what the ending means, and the conflicts. `check` holds
+FILE.sheet to FILE.plant, and takes both there and back. README.md says what a text
+looks like.
 
 Bytes are packed and read by outside/plant.py, which shares nothing with the
 proved library. Python 3, standard library only.
@@ -56,8 +57,17 @@ MARKS = (codecs.BOM_UTF8, codecs.BOM_UTF16_LE, codecs.BOM_UTF16_BE)
 NOT_IN_TEXT = re.compile(rb"[\x00-\x08\x0b\x0c\x0e-\x1f\x7f]")
 SHEET_BEGINS = b"\x01"
 LISTED = re.compile(r"([0-9]+ ([0-9]{1,10})) ([0-9a-f]{16})")
+ENDED = re.compile(r"(all|enough|full|spent) ([0-9]+) tested .*")
 CONFLICT = re.compile(r"conflict ([0-9a-f]{16}) ([0-9a-f]{16})")
 ANOTHER = "is this the list of another plant?"
+
+# What an ending means to an instructor.
+ENDINGS = {
+    "all": "no other explanation",
+    "enough": "there may be more: these are as many as were asked for",
+    "full": "there may be more: the queue was too short",
+    "spent": "there may be more: the limit struck",
+}
 
 # What people write in a clause, and what to write.
 HINTS = (
@@ -272,9 +282,17 @@ def in_words(conflict):
     return f"{', '.join(words[:-1])} and {words[-1]}: not together"
 
 
+def with_meaning(line, ending, listed):
+    """The line of the ending and the counts, then what the ending means."""
+    return f"{line}\n{'no explanation' if ending == 'all' and not listed else ENDINGS[ending]}"
+
+
 def named(line, parts):
-    """A line of a list with its code in names, a conflict in words; other lines as
-    they are."""
+    """A line of a list with its code in names, that of the ending with its meaning, a
+    conflict in words; other lines as they are."""
+    ended = ENDED.fullmatch(line)
+    if ended:
+        return with_meaning(line, ended[1], int(ended[2]))
     conflict = CONFLICT.fullmatch(line)
     if conflict:
         return in_words(chosen(parts, int(conflict[2], 16), int(conflict[1], 16)))

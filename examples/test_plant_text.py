@@ -106,6 +106,19 @@ class PlantText(unittest.TestCase):
         self.assertEqual(named("1 0 0000000000000000", parts), "1 0 all in their first state")
         self.assertEqual(named("refused 5", parts), "refused 5")
 
+    def test_endings(self):
+        counts = "tested 9 learned 0 unkept 0 trials 9"
+        words = {
+            "all 3": "no other explanation",
+            "all 0": "no explanation",
+            "enough 3": "there may be more: these are as many as were asked for",
+            "full 0": "there may be more: the queue was too short",
+            "spent 12": "there may be more: the limit struck",
+        }
+        for ending, meaning in words.items():
+            line = f"{ending} {counts}"
+            self.assertEqual(named(line, parse(TOP).parts), f"{line}\n{meaning}")
+
     def test_conflicts(self):
         parts = parse("\n".join(f"part {name}: well 0, ill 1" for name in "abc")).parts
         words = {

@@ -115,6 +115,7 @@ exercise() {
     local small=examples/small.sheet
     local conflict='conflict c000000000000000 0000000000000000'
     prints "$host" "$one" -k 1 $small
+    prints "$host" "$(cat examples/small.list)" -k 3 $small
     prints "$host" "$one"$'\n'"$conflict" -k 1 -c $small
     prints "$host" "${one/learned 1 unkept 0 trials 13/learned 0 unkept 1 trials 3}" \
         -c -k 1 -s 0 $small
@@ -293,11 +294,15 @@ check_named() {
     local none=$out/none.plant status=0 said name
     said=$(block examples/README.md '<!-- list -->' '<!-- end -->' 1 | sed '1,2d;s/^    //')
     lists "$said" examples/small.plant
-    lists 'spent 0 tested 1 learned 0 unkept 0 trials 5' --limit 5 examples/small.plant
-    lists $'1 3 clutch=open\nenough 1 tested 2 learned 1 unkept 0 trials 13\n'"${said##*$'\n'}" \
-        -k 1 examples/small.plant
+    lists "$said" -k 3 examples/small.plant
+    lists "$(block examples/README.md '<!-- enough -->' '<!-- end -->' 1 | sed '1,2d;s/^    //')" \
+        -k 2 examples/small.plant
+    lists $'spent 0 tested 1 learned 0 unkept 0 trials 5\nthere may be more: the limit struck' \
+        --limit 5 examples/small.plant
     printf 'part lever: ahead 0, idle 3\nnever\n' > "$none"
-    lists $'all 0 tested 1 learned 1 unkept 0 trials 0\nno state fits' "$none"
+    lists $'all 0 tested 1 learned 1 unkept 0 trials 0\nno explanation\nno state fits' "$none"
+    python3 -B examples/plant_text.py list -k 30 examples/ties.plant | grep -q '^all 30 ' ||
+        fail "ties -k 30: not all"
     python3 -B examples/plant_text.py list -k 0 "$none" > "$out/printed" 2> "$out/reason" ||
         status=$?
     [ "$status" = 1 ] || fail "list -k 0: status $status"

@@ -14,7 +14,8 @@
 static const char usage[] =
     "usage: leading_host [-k STATES] [-q ENTRIES] [-s ENTRIES] [-l TRIALS] [-c] [FILE]\n"
     "  lists the leading states of the plant sheet in FILE or standard input\n"
-    "  -k  states to list at most (16)\n"
+    "  -k  states to list at most (16); a run that ends 'all' has listed every state\n"
+    "      that fits, after 'enough', 'full' and 'spent' there may be more\n"
     "  -q  queue entries (4096)\n"
     "  -s  conflict store entries (64); with 0, or with a store that gets full, a run\n"
     "      may take hours, for -l bounds trials only and there are tests without any\n"

@@ -67,7 +67,12 @@
  *     for (uint32_t i = 0; i < result[LEADING_LISTED]; i++)
  *         printf("cost %" PRIu32 ": selector %u, clutch %u\n", costs[i],
  *                LEADING_VALUE(codes[i], 0), LEADING_VALUE(codes[i], 1));
- *     return result[LEADING_ENDING] == LEADING_ALL ? 0 : 1;
+ *     if (result[LEADING_ENDING] == LEADING_ALL)
+ *         printf("no other explanation\n");
+ *     else
+ *         printf("there may be more: %s\n",
+ *                leading_ending_text(result[LEADING_ENDING]));
+ *     return 0;
  * }
  * @endcode
  *
@@ -77,6 +82,7 @@
  * cost 3: selector 0, clutch 1
  * cost 3: selector 1, clutch 0
  * cost 6: selector 1, clutch 1
+ * no other explanation
  * @endoutput
  *
  * host/leading_host.c is a whole program over this header.
@@ -94,11 +100,11 @@ extern "C" {
 /* ---- Version ------------------------------------------------------------ */
 
 /* Of this interface. MAJOR rises with a change that breaks callers, MINOR with
- * one that adds to it. */
+ * one that adds to it, or after which an answer says more. */
 #define LEADING_VERSION_MAJOR 0
-#define LEADING_VERSION_MINOR 4
+#define LEADING_VERSION_MINOR 5
 #define LEADING_VERSION_PATCH 0
-#define LEADING_VERSION "0.4.0"
+#define LEADING_VERSION "0.5.0"
 
 /* The three in one number, for #if and for leading_version(). */
 #define LEADING_VERSION_NUMBER                                       \
@@ -224,13 +230,22 @@ enum leading_result {
     LEADING_TRIALS = 5   /* trials made in all; never above limit */
 };
 
-/* How a run ended. After every ending the list is right as far as it goes. */
+/*
+ * How a run ended. After every ending the list is right as far as it goes, and only
+ * LEADING_ALL says that no other state fits. Where k states are listed it is
+ * LEADING_ALL if the search came to its end with the last of them, and otherwise
+ * LEADING_ENOUGH: then another state may fit or none, and a call with a greater k
+ * can tell. Which of the two it is may depend on the conflicts offered; the list
+ * does not.
+ */
 enum leading_ending {
-    LEADING_ENOUGH = 1, /* k states are listed; there may be more */
-    LEADING_ALL = 2,    /* every state that fits is listed */
-    LEADING_FULL = 3,   /* the queue had too few entries to go on */
+    LEADING_ENOUGH = 1, /* k states are listed, and there may be more */
+    LEADING_ALL = 2,    /* every state that fits is listed: there is no other
+                         * explanation; also where these are just k */
+    LEADING_FULL = 3,   /* the queue had too few entries to go on; there may be
+                         * more */
     LEADING_SPENT = 4   /* a trial beyond the limit was wanted, or one test
-                         * more than 2^32 - 1 */
+                         * more than 2^32 - 1; there may be more */
 };
 
 /* The places of a test's and a reduction's result words. */
@@ -414,7 +429,9 @@ uint32_t leading_version(void);
  *     Out: the six words of enum leading_result. Before: anything. After: words
  *     behind the six unchanged.
  * k
- *     How many states to list at most, 1 to 4,096.
+ *     How many states to list at most, 1 to 4,096. With k as many as the plant has
+ *     states (the product of the numbers of states of the parts), or more, the
+ *     run never ends LEADING_ENOUGH.
  * limit
  *     The most trials, of all tests together; 0 is allowed. A trial is one
  *     value set in a test, a few nanoseconds. The limit bounds trials only: a

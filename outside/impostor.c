@@ -1,5 +1,6 @@
 /* Wrong calls over the right ones, to see that scale.py finds them: IMPOSTOR says
- * which; 1 to 8 list, 9 to 13 test, 14 to 19 reduce, 20 to 29 write, 30 to 34 read.
+ * which; 1 to 8 and 35 to 37 list, 9 to 13 test, 14 to 19 reduce, 20 to 29 write,
+ * 30 to 34 read.
  * Linked with --wrap for each of the five; no part of the gate. */
 #include "leading.h"
 
@@ -56,6 +57,8 @@ uint32_t __wrap_leading_list(LENT)
         limit -= limit > 0;
     if (IMPOSTOR == 2) /* offers are forgotten */
         held = held > store_len / 2 ? held : 0;
+    if (IMPOSTOR == 37 && 0 < k && k < LEADING_K_MOST && k < codes_len && k < costs_len)
+        k++; /* 'enough' one state late */
     uint32_t refused = __real_leading_list(sheet, sheet_len, codes, codes_len, costs, costs_len,
                                            queue, queue_len, store, store_len, result,
                                            result_len, k, held, limit);
@@ -74,6 +77,11 @@ uint32_t __wrap_leading_list(LENT)
         result[LEADING_TESTED] += 1;
     if (IMPOSTOR == 8 && queue_len > 100) /* ties by what the queue is */
         swap_tie(codes, costs, listed);
+    uint32_t *ending = &result[LEADING_ENDING];
+    if (IMPOSTOR == 35 && *ending == LEADING_ALL && listed == k) /* k before the queue */
+        *ending = LEADING_ENOUGH;
+    if (IMPOSTOR == 36 && *ending == LEADING_ENOUGH) /* 'all' whenever k are listed */
+        *ending = LEADING_ALL;
     return refused;
 }
 

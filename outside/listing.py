@@ -188,10 +188,10 @@ class Run:
         self.check_offered(offered)
         self.queue = [self.queue_entry((None,) * self.plant.decisions)]
         while True:
-            if len(self.listed) == self.k:
-                return "enough"
             if not self.queue:
                 return "all"
+            if len(self.listed) == self.k:
+                return "enough"
             ending = self.take_node(self.remove_first())
             if ending:
                 return ending

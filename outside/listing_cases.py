@@ -20,6 +20,7 @@ from sheet_cases import (
     with_field,
 )
 from test_cases import tight_plant
+from whole import whole_set
 
 
 class Run(NamedTuple):
@@ -212,12 +213,30 @@ def contradiction_runs(rng):
     return runs
 
 
+def last_state_runs(rng):
+    """As many states asked for as fit, one fewer and one more; and as many with the
+    conflicts offered that a run to the end learned: fewer nodes are left then."""
+    runs = []
+    while len(runs) < 60:
+        plant = nogood_plant(rng) if rng.random() < 0.5 else tight_plant(rng)
+        fitting = len(whole_set(plant))
+        if not 0 < fitting < 40:
+            continue
+        run = Run(encode(plant), fitting, 41, 41, 600, 2 * rng.choice([0, 3, 40]))
+        runs += [run, run._replace(k=fitting + 1)]
+        if fitting > 1:
+            runs.append(run._replace(k=fitting - 1))
+        runs.append(offering(run, learned_by(run._replace(k=41, store=80))))
+    return runs
+
+
 @lru_cache(maxsize=1)
 def listing_cases():
     rng = Random(303)
     cases = table_runs() + host_refusal_runs() + author_refusal_runs()
     cases += random_runs(rng) + queue_runs(rng)
-    return cases + wide_runs(rng) + contradiction_runs(rng)
+    cases += wide_runs(rng) + contradiction_runs(rng)
+    return cases + last_state_runs(Random(404))
 
 
 def words_bytes(words, width):

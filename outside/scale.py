@@ -155,6 +155,7 @@ class ListingTally(SearchTally):
     def count_run(self, case, want):
         number, listed = want.words("result")[:2]
         self.endings[ENDING_NAMES[number]] += 1
+        self.counts["all with k"] += number == ENDINGS["all"] and listed == case.settings.k
         self.counts["longest"] = max(self.counts["longest"], listed)
 
     def check_found(self, case, got, plant):
@@ -186,11 +187,16 @@ class CallTally(SearchTally):
 
 
 def near_its_end(rng, case, want):
-    """The case with a limit just at or below the trials it takes."""
-    trials = want.words("result")[5] if not want.returned else 0
-    if not trials or rng.random() < 0.7:
+    """The case with a limit just at or below the trials it takes; or with k at, just
+    below or just above the states it lists."""
+    listed, trials = (0, 0) if want.returned else want.words("result")[1:6:4]
+    kind = rng.random()
+    if trials and kind < 0.3:
+        case.settings.limit = rng.choice([trials, trials - 1, rng.randrange(trials)])
+    elif listed and kind > 0.8:
+        case.settings.k = max(1, listed + rng.choice([-1, 0, 0, 0, 1]))
+    else:
         return case, want
-    case.settings.limit = rng.choice([trials, trials - 1, rng.randrange(trials)])
     return case, wanted(case)
 
 
@@ -349,7 +355,8 @@ def report(tally, sheets):
         f"scale: {c['cases']} cases, {c['damaged']} of damaged sheets "
         f"({c['damaged and read']} of these ran), {c['words']} lent words compared; "
         f"{c['left out']} left out as too long for the outside lister\n"
-        f"scale: endings: {in_words(tally.endings)}; the longest list {c['longest']}\n"
+        f"scale: endings: {in_words(tally.endings)}; {c['all with k']} of 'all' with k "
+        f"listed; the longest list {c['longest']}\n"
         f"scale: refusals: {in_words(tally.refusals)}\n"
         f"scale: demand 3 checked on {c['demand 3']} runs, "
         f"in {c['struck in a reduction']} the limit struck in a reduction\n"

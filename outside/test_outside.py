@@ -14,8 +14,8 @@ import sheet_cases
 import table_cases
 import test_cases
 import vectors
-from listing import Settings, export, leading, listing
-from plant import Refusal, encode, fields, pack, read
+from listing import Run, Settings, export, leading, listing
+from plant import Plant, Refusal, encode, fields, pack, read
 from search import Meter, is_false, reduce_call, reduce_within, test, test_call
 from shapes import nogood_plant, random_assignment, random_words
 from shapes import small_random_plant, spoil
@@ -29,6 +29,7 @@ from whole import (
     consistent_states,
     minimal,
     run_list,
+    whole_set,
 )
 
 SMALL = bytes.fromhex("0110201080000001880000001898100601044200")
@@ -69,7 +70,7 @@ class Table(unittest.TestCase):
         self.assertEqual(P1_LINES + last, leading(SMALL))
         self.check("all 3 4 1 0 15", P1_LIST)
         self.check("enough 1 2 1 0 13", P1_LIST[:1], k=1)
-        self.check("enough 3 4 1 0 15", P1_LIST, k=3)
+        self.check("all 3 4 1 0 15", P1_LIST, k=3)
 
     def test_p4(self):
         self.check("full 0 0 0 0 0", [], queue=2)
@@ -371,6 +372,75 @@ class Listings(unittest.TestCase):
         self.assertEqual([code for _, code in P1_LIST], settings.codes[:3])
 
 
+class Counted(Run):
+    """A run that counts the nodes removed."""
+
+    removed = 0
+
+    def take_node(self, node):
+        Counted.removed += 1
+        return super().take_node(node)
+
+
+def ending_and_removals(sheet, settings):
+    Counted.removed = 0
+    return listing(sheet, settings, Counted).ending, Counted.removed
+
+
+class LastState(unittest.TestCase):
+    """Request L2: 'all' where listing the k-th state left the queue empty."""
+
+    def test_endings(self):
+        """By brute force: with k above the number of states 'all', below it 'enough'. With
+        k equal to it 'all' where asking for one more removes no further node."""
+        rng = Random(9)
+        seen = set()
+        for place in range(300):
+            plant = small_random_plant(rng, 300) if place % 2 else nogood_plant(rng)
+            fitting = len(whole_set(plant))
+            store = rng.choice([0, 2, 40])
+            runs = {
+                k: ending_and_removals(encode(plant), set_up(k, 300, store))
+                for k in range(max(fitting - 1, 1), fitting + 2)
+            }
+            self.assertEqual("all", runs[fitting + 1][0])
+            if fitting > 1:
+                self.assertEqual("enough", runs[fitting - 1][0])
+            if fitting:
+                nothing_left = runs[fitting][1] == runs[fitting + 1][1]
+                self.assertEqual("all" if nothing_left else "enough", runs[fitting][0])
+                seen.add(nothing_left)
+        self.assertEqual({True, False}, seen)
+
+    def test_memory(self):
+        """The list is the same whatever is offered; the ending may be another one."""
+        rng = Random(10)
+        seen = set()
+        for _ in range(150):
+            plant = nogood_plant(rng)
+            fitting = len(whole_set(plant))
+            if not fitting:
+                continue
+            end = listing(encode(plant), set_up(fitting + 1, 300, 40))
+            words = end.store[: 2 * end.learned]
+            offers = list(zip(words[0::2], words[1::2]))
+            fresh = listing(encode(plant), set_up(fitting, 300, 40))
+            knowing = listing(encode(plant), set_up(fitting, 300, 40, offers))
+            self.assertEqual(run_list(end), run_list(fresh))
+            self.assertEqual(run_list(end), run_list(knowing))
+            seen.add((fresh.ending, knowing.ending))
+        self.assertLessEqual({("enough", "all"), ("all", "all")}, seen)
+
+    def test_complaint(self):
+        """'Enough' with every full assignment listed breaks the specification."""
+        plant = Plant(sheet_cases.SMALL_PLANT.costs, (), ())
+        settings = set_up(4, 8, 4)
+        result = listing(encode(plant), settings)
+        self.assertEqual([], check_rest(result, plant, settings))
+        result.ending = "enough"
+        self.assertEqual(1, len(check_rest(result, plant, settings)))
+
+
 class Impostors(unittest.TestCase):
     """Demand 3's check complains of each of these."""
 
@@ -470,8 +540,11 @@ class Vectors(unittest.TestCase):
                 self.assertEqual([], check_demand3(result, plant, settings))
                 self.assertEqual([], check_rest(result, plant, settings))
                 seen.add((result.ending, result.struck_in_reduction))
+                if result.listed == settings.k == len(whole_set(plant)):
+                    seen.add((result.ending, "last"))
         self.assertLessEqual({*range(1, 14), ("spent", False), ("spent", True)}, seen)
         self.assertLessEqual({("enough", False), ("all", False), ("full", False)}, seen)
+        self.assertLessEqual({("enough", "last"), ("all", "last")}, seen)
 
     def test_sheets(self):
         cases = sheet_cases.sheet_cases()

@@ -162,6 +162,8 @@ def check_rest(result, plant, settings):
     states = prod(plant.sizes[: plant.decisions])
     if result.ending == "full" and len(settings.queue) // 2 >= states:
         broken.append("'full' with an entry for every state")
+    if result.ending == "enough" and result.listed == states:
+        broken.append("'enough' with no full assignment left")
     if result.unkept and any(w == (0, 0) for w in entries(result.store)):
         broken.append("unkept with the store not full")
     return broken

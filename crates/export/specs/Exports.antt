@@ -15,7 +15,7 @@ use Rattle.theory.specs.Words.{Words}
 
 -- the version of the exports: its three numbers, each but the first below 256
 abbrev pub version : ℕ
-version = 0 * 65536 + 4 * 256 + 0
+version = 0 * 65536 + 5 * 256 + 0
 
 -- ---- the listing
 

@@ -218,6 +218,39 @@ pub rooms-are : answers rooms ≡ expected rooms
 unfolding rooms answers expected plain tail small oneOfSix twoOfSix nothingHolds firstIsOne thirdFails three
 rooms-are = refl
 
+-- ---- the k-th state and the empty queue
+
+-- step 3 looks at the queue first: 'all' where listing the k-th state left it empty, 'enough' where a node is left
+unfoldable pub lasts : List Row
+lasts =
+    -- as many states as there are, and the queue is empty; one more; one fewer, and a state is left
+    plain cheaperFirst 4 8 4 [] 1000
+    gives lists all (0 ∷ 0x1000000000000000 ∷ 0x0100000000000000 ∷ 0x1100000000000000 ∷ []) (0 ∷ 1 ∷ 5 ∷ 6 ∷ []) [] 4 0 0 0
+    ∷ plain cheaperFirst 5 8 4 [] 1000
+    gives lists all (0 ∷ 0x1000000000000000 ∷ 0x0100000000000000 ∷ 0x1100000000000000 ∷ []) (0 ∷ 1 ∷ 5 ∷ 6 ∷ []) [] 4 0 0 0
+    ∷ plain cheaperFirst 3 8 4 [] 1000 gives lists enough (0 ∷ 0x1000000000000000 ∷ 0x0100000000000000 ∷ []) (0 ∷ 1 ∷ 5 ∷ []) [] 3 0 0 0
+    -- as many as there are, and one node is left, which holds no consistent assignment; one more, and it is tested
+    ∷ plain twoOfSix 2 8 4 [] 1000 gives lists enough (0x1200000000000000 ∷ 0x1000000000000000 ∷ []) (3 ∷ 5 ∷ []) (selector ∷ 0 ∷ []) 3 1 0 2
+    ∷ plain twoOfSix 3 8 4 [] 1000
+    gives lists all (0x1200000000000000 ∷ 0x1000000000000000 ∷ []) (3 ∷ 5 ∷ []) (selector ∷ 0 ∷ second ∷ 0x0100000000000000 ∷ []) 4 2 0 5
+    -- the only state, with two such nodes left; with conflicts offered that rule them out
+    ∷ plain oneLeft 1 3 2 [] 1000 gives lists enough (0 ∷ []) (0 ∷ []) [] 1 0 0 0
+    ∷ plain oneLeft 1 3 2 (selector ∷ 0x1000000000000000 ∷ selector ∷ 0x2000000000000000 ∷ []) 1000
+    gives lists all (0 ∷ []) (0 ∷ []) (selector ∷ 0x1000000000000000 ∷ selector ∷ 0x2000000000000000 ∷ []) 1 0 0 0
+    -- the only state is the last that is tested
+    ∷ plain noFiller 1 2 1 [] 1000 gives lists all (0x1000000000000000 ∷ []) (1 ∷ []) (selector ∷ 0 ∷ []) 2 1 0 2
+    -- the limit strikes in the test of the k-th state, and one trial later it does not
+    ∷ plain small 3 8 4 [] 14 gives lists Ending.spent (0x0100000000000000 ∷ 0x1000000000000000 ∷ []) (3 ∷ 3 ∷ []) (both ∷ 0 ∷ []) 3 1 0 14
+    ∷ plain small 3 8 4 [] 15 gives asP1
+    -- no consistent assignment, k 1: with a store, and without one
+    ∷ plain unsatisfiable 1 8 4 [] 1000 gives lists all [] [] (0 ∷ 0 ∷ []) 1 1 0 2
+    ∷ plain unsatisfiable 1 8 0 [] 1000 gives lists all [] [] [] 2 0 2 0
+    ∷ []
+
+pub lasts-are : answers lasts ≡ expected lasts
+unfolding lasts answers expected plain tail small cheaperFirst twoOfSix oneLeft noFiller unsatisfiable three asP1
+lasts-are = refl
+
 -- ---- order and sizes
 
 unfoldable pub shapes : List Row
@@ -234,7 +267,7 @@ shapes =
     ∷ plain oneVariable 16 8 4 [] 1000 gives lists all (0x1000000000000000 ∷ 0 ∷ 0x2000000000000000 ∷ []) (4 ∷ 5 ∷ 6 ∷ []) [] 3 0 0 0
     -- the lowest of two cheapest values counts: the node {second = 1}, with the best state 0 1, comes before the state 1 0
     ∷ plain tied 2 3 2 (second ∷ 0x0200000000000000 ∷ []) 1000
-    gives lists enough (0 ∷ 0x1000000000000000 ∷ []) (3 ∷ 3 ∷ []) (second ∷ 0x0200000000000000 ∷ second ∷ 0x0100000000000000 ∷ []) 3 1 0 2
+    gives lists all (0 ∷ 0x1000000000000000 ∷ []) (3 ∷ 3 ∷ []) (second ∷ 0x0200000000000000 ∷ second ∷ 0x0100000000000000 ∷ []) 3 1 0 2
     -- a sheet without filler
     ∷ plain noFiller 2 2 1 [] 1000 gives lists all (0x1000000000000000 ∷ []) (1 ∷ []) (selector ∷ 0 ∷ []) 2 1 0 2
     -- D 16, and a cost of 16 bits
@@ -244,7 +277,7 @@ shapes =
     -- a state variable of sixteen values
     ∷ plain stateOfSixteen 2 1 0 [] 1000 gives lists all (0 ∷ []) (0 ∷ []) [] 1 0 0 16
     -- a clause of fifteen literals
-    ∷ plain fifteenLiterals 2 2 1 [] 1000 gives lists enough (0 ∷ 0x1000000000000000 ∷ []) (0 ∷ 1 ∷ []) [] 2 0 0 0
+    ∷ plain fifteenLiterals 2 2 1 [] 1000 gives lists all (0 ∷ 0x1000000000000000 ∷ []) (0 ∷ 1 ∷ []) [] 2 0 0 0
     -- k 4,096, with a queue and a store of 8,192 words, and a decision variable of sixteen values
     ∷ plain sixteenValues 4096 4096 4096 [] 1000
     gives lists all

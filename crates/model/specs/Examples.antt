@@ -152,7 +152,7 @@ table =
     -- P2: k 1
     ∷ plain small 1 4096 64 [] 1000000 gives lists enough (0x0100000000000000 ∷ []) (3 ∷ []) (both ∷ 0 ∷ []) 2 1 0 13
     -- P3: k 3
-    ∷ plain small 3 4096 64 [] 1000000 gives lists enough three (3 ∷ 3 ∷ 6 ∷ []) (both ∷ 0 ∷ []) 4 1 0 15
+    ∷ plain small 3 4096 64 [] 1000000 gives asP1
     -- P4: a queue of 2 entries, and of 3
     ∷ plain small 16 2 64 [] 1000000 gives lists full [] [] [] 0 0 0 0
     ∷ plain small 16 3 64 [] 1000000 gives asP1

@@ -48,6 +48,8 @@ exports =
     -- each ending, with six words, and with one more that is unchanged
     exporting (plain small 16 8 4 [] 1000 gives asP1) (nines 7) 0 (2 ∷ 3 ∷ 4 ∷ 1 ∷ 0 ∷ 15 ∷ 9 ∷ [])
     ∷ exporting (plain small 1 8 4 [] 1000 gives lists enough (0x0100000000000000 ∷ []) (3 ∷ []) (both ∷ 0 ∷ []) 2 1 0 13) (nines 6) 0 (1 ∷ 1 ∷ 2 ∷ 1 ∷ 0 ∷ 13 ∷ [])
+    -- 'all' and not 'enough' where the k-th state is the last
+    ∷ exporting (plain small 3 8 4 [] 1000 gives asP1) (nines 6) 0 (2 ∷ 3 ∷ 4 ∷ 1 ∷ 0 ∷ 15 ∷ [])
     ∷ exporting (plain small 16 2 4 [] 1000 gives lists full [] [] [] 0 0 0 0) (nines 6) 0 (3 ∷ 0 ∷ 0 ∷ 0 ∷ 0 ∷ 0 ∷ [])
     ∷ exporting (plain small 16 8 4 [] 5 gives strikes [] [] [] 1 0 0 5) (nines 6) 0 (4 ∷ 0 ∷ 1 ∷ 0 ∷ 0 ∷ 5 ∷ [])
     -- conflicts that are not kept

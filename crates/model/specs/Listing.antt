@@ -245,14 +245,14 @@ module _ (p : Plant) (o : Order) (k entries places limit : ℕ) where
         ]
       ]
 
-  -- step 3, further: if the queue is empty 'all', otherwise the node whose best state comes first is removed
+  -- step 3 with this queue: if it is empty 'all'; otherwise if k are listed 'enough'; otherwise the node whose best state comes first is removed
   unfoldable pub remove : State → List Assignment → Next
   remove s [] = ended all s
-  remove s (n ∷ rest) = expand s rest n
+  remove s (n ∷ rest) = elim (ltb (length (s .listed)) k) [ false ↦ ended enough s | true ↦ expand s rest n ]
 
-  -- step 3: if k are listed 'enough'
+  -- step 3 looks at the queue first
   unfoldable pub step : State → Next
-  step s = elim (ltb (length (s .listed)) k) [ false ↦ ended enough s | true ↦ remove s (s .queue) ]
+  step s = remove s (s .queue)
 
   -- so many steps at most
   unfoldable pub run : ℕ → State → Next

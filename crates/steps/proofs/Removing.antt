@@ -40,33 +40,37 @@ first-element (x ∷ xs) h = (x, xs, refl)
 step-expand : (p : Plant) (o : Order) {k wanted entries others : ℕ} (places limit : ℕ) (s : State) (n : Assignment) (rest : List Assignment) → wanted ≡ k → others ≡ entries
     → ltb (length (s .listed)) k ≡ true → s .queue ≡ n ∷ rest → expand p o wanted others places limit s rest n ≡ step p o k entries places limit s
 unfolding step remove
-step-expand p o {k} {entries = entries} places limit s n rest a b e f = rw (step, e, ap (remove p o k entries places limit s) f, a, b) refl
+step-expand p o {k} {entries = entries} places limit s n rest a b e f = rw (step, ap (remove p o k entries places limit s) f, remove, e, a, b) refl
 
 module _ {d : ℕ} {sizes prices counts lits sat uses plan : List ℕ} {preferred k limit : ℕ} {codes costs queue store : List ℕ} {g : Progress}
     (t : Steps d sizes prices counts lits sat uses plan preferred k limit codes costs queue store g) where
-  -- as many states are listed as are wanted
-  pub step-enough : k ≤ g .listed
-      → NextIs (t .question) queue store codes costs (After.Ended Ending.Enough g) (step (t .question .plant) (orderOf (t .question .plant)) k (length queue / 2) (length store / 2) limit (t .state))
-  unfolding step
-  step-enough h = let w = t .turn .standing .written in rw (step, le-ltb (length (t .state .listed)) k (omega (arith, w .listed-is))) (refl, w)
+  -- the queue has no nodes
+  pub step-all : g .queued ≡ 0
+      → NextIs (t .question) queue store codes costs (After.Ended Ending.All g) (step (t .question .plant) (orderOf (t .question .plant)) k (length queue / 2) (length store / 2) limit (t .state))
+  unfolding step remove
+  step-all h =
+      let p = t .question .plant in
+      rw (step, ap (remove p (orderOf p) k (length queue / 2) (length store / 2) limit (t .state)) (no-elements (t .state .queue) (t .turn .standing .holds .count ∙ h)))
+      (refl, t .turn .standing .written)
 
-  module _ (wanting : g .listed < k) where
-    fewer : ltb (length (t .state .listed)) k ≡ true
-    fewer = lt-ltb (length (t .state .listed)) k (omega (arith, t .turn .standing .written .listed-is))
+  module _ (filled : 0 < g .queued) where
+    -- the node in front
+    front : (n : Assignment) × (rest : List Assignment) × (t .state .queue ≡ n ∷ rest)
+    front = first-element (t .state .queue) (omega (arith, t .turn .standing .holds .count))
 
-    -- the queue has no nodes
-    pub step-all : g .queued ≡ 0
-        → NextIs (t .question) queue store codes costs (After.Ended Ending.All g) (step (t .question .plant) (orderOf (t .question .plant)) k (length queue / 2) (length store / 2) limit (t .state))
+    -- as many states are listed as are wanted
+    pub step-enough : k ≤ g .listed
+        → NextIs (t .question) queue store codes costs (After.Ended Ending.Enough g) (step (t .question .plant) (orderOf (t .question .plant)) k (length queue / 2) (length store / 2) limit (t .state))
     unfolding step remove
-    step-all h =
+    step-enough h =
         let p = t .question .plant in
-        rw (step, fewer, ap (remove p (orderOf p) k (length queue / 2) (length store / 2) limit (t .state)) (no-elements (t .state .queue) (t .turn .standing .holds .count ∙ h)))
-        (refl, t .turn .standing .written)
+        let w = t .turn .standing .written in
+        rw (step, ap (remove p (orderOf p) k (length queue / 2) (length store / 2) limit (t .state)) (front .2), remove, le-ltb (length (t .state .listed)) k (omega (arith, w .listed-is)))
+        (refl, w)
 
-    module _ (filled : 0 < g .queued) where
-      -- the node in front
-      front : (n : Assignment) × (rest : List Assignment) × (t .state .queue ≡ n ∷ rest)
-      front = first-element (t .state .queue) (omega (arith, t .turn .standing .holds .count))
+    module _ (wanting : g .listed < k) where
+      fewer : ltb (length (t .state .listed)) k ≡ true
+      fewer = lt-ltb (length (t .state .listed)) k (omega (arith, t .turn .standing .written .listed-is))
 
       searched : Searching (t .question .plant) (orderOf (t .question .plant)) (front .0 ∷ front .1) (t .state .listed)
       searched = rw (front .2) at (t .turn .going .kept .searching)

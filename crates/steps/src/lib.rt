@@ -23,7 +23,7 @@ pub struct Finished {
     pub progress: Progress,
 }
 
-// Step 3, and with the node whose best state comes first the steps 4 to 7.
+// Step 3, which looks at the queue first, and with the node whose best state comes first the steps 4 to 7.
 fn step(
     d: usize,
     sizes: &[u8],
@@ -48,11 +48,11 @@ fn step(
         (step (t .question .plant) (orderOf (t .question .plant)) k (length (now (queue .entry)) / 2) (length (now (store .entry)) / 2) limit (t .state))) ⌝ }
     ensures long { λ _. ⌜ length (now (plan .exit)) ≡ planWords ⌝ }
 {
-    if k <= g.listed {
-        return Next::Ended(Ending::Enough, g);
-    }
     if g.queued == 0 {
         return Next::Ended(Ending::All, g);
+    }
+    if k <= g.listed {
+        return Next::Ended(Ending::Enough, g);
     }
     let e = queue::pop(queue, g.queued);
     let left = Progress {

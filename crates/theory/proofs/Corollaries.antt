@@ -2,6 +2,7 @@
 use mathlib.Core.Path.{_≡_, refl, sym, _∙_, ap, subst}
 use mathlib.Core.Logic.{inl, inr}
 use mathlib.Core.Bool.{Bool}
+use mathlib.Core.Option.{Option, none, some}
 use mathlib.Core.List.{List, [], _∷_, _++_, append-nil}
 use Prim.Native.Nat.{ℕ, _/_, _≤_}
 use native.Mathlib.Omega.{arith}
@@ -10,11 +11,13 @@ use lib.ListN.{length, length-append}
 use Rattle.model.specs.Lists.{Begins}
 use Rattle.model.specs.Sheet.{Plant, got, edition1, readSheet, decisionSizes}
 use Rattle.model.specs.Order.{Entry, product, wholeSet, orderOf}
-use Rattle.model.specs.Listing.{Ending, all}
-use Rattle.model.specs.Calls.{Answer, answered, Buffers, Counts, ran, runList, listingWith}
+use Rattle.model.specs.Listing.{Ending, enough, all}
+use Rattle.model.specs.Calls.{Answer, answered, Buffers, Counts, ran, firstGiven, hostGrounds, runList, countsOf, calledOf, listingWith}
 use Rattle.theory.specs.Demand3.{Demand3, PromisedBy}
 use Rattle.theory.specs.TwoRuns.{ListOn, NoContradiction}
-use Rattle.theory.proofs.Demand3.{promised}
+use Rattle.theory.proofs.Nodes.{rooms-length}
+use Rattle.theory.proofs.Run.{differ}
+use Rattle.theory.proofs.Demand3.{queue-given, sheet-at-least, call-done, promised}
 
 -- of two lists that begin a third, the shorter begins the longer
 begins-both : {A : Type 0} (xs ys zs : List A) → Begins xs zs → Begins ys zs → length xs ≤ length ys → Begins xs ys
@@ -105,3 +108,16 @@ module _ (sheet : List ℕ) where
       let a = run-promise r in
       let q = one-plant sheet (a .0) p (a .1) end (a .2) e in
       omega (arith, rw q at (a .3 .full-small f))
+
+  -- and a run with k as large as that product never ends 'enough': a node would be left, and in it a full assignment that is not listed
+  pub never-enough : (r : RunOn sheet) (p : Plant) (end : ℕ) → readSheet edition1 sheet ≡ got p end → product (decisionSizes p) ≤ r .k → r .ending ≡ enough → ⊥
+  unfolding listingWith calledOf
+  never-enough r p end says h f = go (firstGiven (hostGrounds (r .k) (r .before) (r .held) (r .resultShort))) refl
+    where
+      go : (g : Option ℕ) → firstGiven (hostGrounds (r .k) (r .before) (r .held) (r .resultShort)) ≡ g → ⊥
+      go (some n) q = let a = rw (listingWith, q) at (r .answers) in differ (cc)
+      go none q =
+          let d = call-done sheet p end says (r .k) (r .before) (queue-given (r .k) (r .before) (r .held) (r .resultShort) q) (r .held) (r .limit) in
+          let a : answered (ran (d .1) (countsOf (d .2))) ≡ answered (ran (r .ending) (r .counts)) = rw (listingWith, q, says, d .3) at (r .answers) in
+          let e : d .1 ≡ enough = cc in
+          omega (arith, d .4 .enough-listed e, d .4 .enough-left e, d .4 .kept .searching .roomy, rooms-length (decisionSizes p) (d .2 .queue) (sheet-at-least sheet p end says))

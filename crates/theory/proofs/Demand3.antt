@@ -156,22 +156,31 @@ module _ (sheet : List ℕ) (p : Plant) (end : ℕ) (e : readSheet edition1 shee
   pub sheet-lawful : Lawful (decisionSizes p) (orderOf p)
   sheet-lawful = cost-lawful p sheet-short (sheet-accepted .decision-sizes)
 
-  -- an accepted call's run ends, and demand 3 holds of it
-  pub run-demand3 : (k : ℕ) (b : Buffers) → 2 ≤ length (b .queue) → (held limit : ℕ)
-      → (ending : Ending) × (s : State) × (runOf p k b held limit ≡ ended ending s) × Demand3 p (orderOf p) k b limit ending (countsOf s) (buffersAfter (orderOf p) b s) (s .struck)
-  unfolding runOf
-  run-demand3 k b room held limit =
-      let r = listing-done p (orderOf p) sheet-lawful (accepted-present edition1 p sheet-accepted) (all-map (λ s h. h .0) (decisionSizes p) sheet-sized) k limit
-      (length (b .queue) / 2) (length (b .store) / 2) (omega arith) (offersOf held (b .store)) in (
-        r .1,
-        r .2,
-        r .3,
-        demand3-done p (orderOf p) sheet-lawful (rw (length-map (p .costs) length) sheet-short) (all-map (λ s h. h .1) (decisionSizes p) sheet-sized)
-            k limit (r .0) b (r .1) (r .2) (r .4),
-      )
+  pub sheet-at-least : All (λ s. 1 ≤ s) (decisionSizes p)
+  sheet-at-least = all-map (λ s h. h .0) (decisionSizes p) sheet-sized
+
+  module _ (k : ℕ) (b : Buffers) (room : 2 ≤ length (b .queue)) (held limit : ℕ) where
+    -- an accepted call's run ends
+    pub call-done : (survivors : List Assignment) × (ending : Ending) × (s : State) × (runOf p k b held limit ≡ ended ending s)
+        × Done p (orderOf p) k limit survivors (length (b .queue) / 2) ending s
+    unfolding runOf
+    call-done = listing-done p (orderOf p) sheet-lawful (accepted-present edition1 p sheet-accepted) sheet-at-least k limit
+        (length (b .queue) / 2) (length (b .store) / 2) (omega arith) (offersOf held (b .store))
+
+    -- and demand 3 holds of it
+    pub run-demand3 : (ending : Ending) × (s : State) × (runOf p k b held limit ≡ ended ending s)
+        × Demand3 p (orderOf p) k b limit ending (countsOf s) (buffersAfter (orderOf p) b s) (s .struck)
+    run-demand3 =
+        let r = call-done in (
+          r .1,
+          r .2,
+          r .3,
+          demand3-done p (orderOf p) sheet-lawful (rw (length-map (p .costs) length) sheet-short) (all-map (λ s h. h .1) (decisionSizes p) sheet-sized)
+              k limit (r .0) b (r .1) (r .2) (r .4),
+        )
 
 -- where no ground is given, neither is the first nor any other
-none-given : (g : Ground) (gs : List Ground) → firstGiven (g ∷ gs) ≡ none → (g .given ≡ false) × (firstGiven gs ≡ none)
+pub none-given : (g : Ground) (gs : List Ground) → firstGiven (g ∷ gs) ≡ none → (g .given ≡ false) × (firstGiven gs ≡ none)
 unfolding firstGiven
 none-given g gs e = go (g .given) refl
   where
@@ -180,7 +189,7 @@ none-given g gs e = go (g .given) refl
     go true f = let h : some (g .number) ≡ none = rw (firstGiven, f) at e in let z : _≡_ {A = ℕ} 0 1 = cc in absurd (omega arith)
 
 -- where no ground of the host's is given, the queue has an entry
-queue-given : (k : ℕ) (b : Buffers) (held : ℕ) (resultShort : Bool) → firstGiven (hostGrounds k b held resultShort) ≡ none → 2 ≤ length (b .queue)
+pub queue-given : (k : ℕ) (b : Buffers) (held : ℕ) (resultShort : Bool) → firstGiven (hostGrounds k b held resultShort) ≡ none → 2 ≤ length (b .queue)
 unfolding hostGrounds
 queue-given k b held resultShort e =
     let wanted = none-given _ _ e in

@@ -30,7 +30,7 @@ use Rattle.theory.proofs.Moves.{stored-conflicts, stored-more, branchin
 use Rattle.theory.proofs.Queue.{enqueueAll-length, enqueueAll-sum}
 
 -- two endings are not the same
-differ : {A : Type 0} → _≡_ {A = ℕ} 0 1 → A
+pub differ : {A : Type 0} → _≡_ {A = ℕ} 0 1 → A
 differ z = absurd (omega arith)
 
 module _ (p : Plant) (o : Order) (law : Lawful (decisionSizes p) o) (present : VariablesPresent p) (k entries places limit : ℕ) (survivors : List Assignment) where
@@ -40,6 +40,7 @@ module _ (p : Plant) (o : Order) (law : Lawful (decisionSizes p) o) (present : V
     kept = h;
     all-empty = λ e. differ (cc);
     enough-listed = λ e. differ (cc);
+    enough-left = λ e. differ (cc);
     struck-spent = λ e. refl;
     spent-why = λ e. why;
     full-small = λ e. differ (cc);
@@ -179,6 +180,7 @@ module _ (p : Plant) (o : Order) (law : Lawful (decisionSizes p) o) (present : V
           kept = g .kept;
           all-empty = λ d. differ (cc);
           enough-listed = λ d. differ (cc);
+          enough-left = λ d. differ (cc);
           struck-spent = λ d. differ (cc (g .unstruck));
           spent-why = λ d. differ (cc);
           full-small = λ d. omega (arith, ltb-true entries (length rest + length others) e, front .roomy, c .smaller, fewer (room ss), rooms-length ss rest sized, rooms-length ss others sized);
@@ -225,28 +227,30 @@ module _ (p : Plant) (o : Order) (law : Lawful (decisionSizes p) o) (present : V
     -- steps 3 to 7
     pub step-stepped : (s : State) → Going p o k limit survivors s → length (s .queue) ≤ entries → Stepped p o k limit survivors entries s (step p o k entries places limit s)
     unfolding step remove
-    step-stepped s g fits = go (ltb (length (s .listed)) k) refl (s .queue) refl
+    step-stepped s g fits = go (s .queue) refl (ltb (length (s .listed)) k) refl
       where
-        go : (b : Bool) → ltb (length (s .listed)) k ≡ b → (q : List Assignment) → s .queue ≡ q → Stepped p o k limit survivors entries s (step p o k entries places limit s)
-        go false e q f = rw (step, e) (record {
-          kept = g .kept;
-          all-empty = λ d. differ (cc);
-          enough-listed = λ d. omega (arith, ltb-false (length (s .listed)) k e, g .kept .listed);
-          struck-spent = λ d. differ (cc (g .unstruck));
-          spent-why = λ d. differ (cc);
-          full-small = λ d. differ (cc);
-          full-why = λ d. differ (cc);
-        })
-        go true e [] f = rw (step, e, ap (remove p o k entries places limit s) f) (record {
+        go : (q : List Assignment) → s .queue ≡ q → (b : Bool) → ltb (length (s .listed)) k ≡ b → Stepped p o k limit survivors entries s (step p o k entries places limit s)
+        go [] f b e = rw (step, ap (remove p o k entries places limit s) f) (record {
           kept = g .kept;
           all-empty = λ d. f;
           enough-listed = λ d. differ (cc);
+          enough-left = λ d. differ (cc);
           struck-spent = λ d. differ (cc (g .unstruck));
           spent-why = λ d. differ (cc);
           full-small = λ d. differ (cc);
           full-why = λ d. differ (cc);
         })
-        go true e (n ∷ rest) f = rw (step, e, ap (remove p o k entries places limit s) f) (expand-stepped s g n rest f fits sized (ltb-true _ _ e))
+        go (n ∷ rest) f false e = rw (step, ap (remove p o k entries places limit s) f, remove, e) (record {
+          kept = g .kept;
+          all-empty = λ d. differ (cc);
+          enough-listed = λ d. omega (arith, ltb-false (length (s .listed)) k e, g .kept .listed);
+          enough-left = λ d. rw f (omega arith);
+          struck-spent = λ d. differ (cc (g .unstruck));
+          spent-why = λ d. differ (cc);
+          full-small = λ d. differ (cc);
+          full-why = λ d. differ (cc);
+        })
+        go (n ∷ rest) f true e = rw (step, ap (remove p o k entries places limit s) f, remove, e) (expand-stepped s g n rest f fits sized (ltb-true _ _ e))
 
     -- with more steps than the queue weighs, the run ends
     pub run-done : (fuel : ℕ) (s : State) → weights (decisionSizes p) (s .queue) < fuel → Going p o k limit survivors s → length (s .queue) ≤ entries

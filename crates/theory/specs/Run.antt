@@ -82,6 +82,7 @@ module _ (p : Plant) (o : Order) (k limit : ℕ) (survivors : List Assignment) w
     pub kept : Kept s
     pub all-empty : e ≡ all → s .queue ≡ []
     pub enough-listed : e ≡ enough → length (s .listed) ≡ k
+    pub enough-left : e ≡ enough → 0 < length (s .queue)
     pub struck-spent : s .struck ≡ true → e ≡ Ending.spent
     pub spent-why : e ≡ Ending.spent → (s .trials ≡ limit) ⊎ (s .tested ≡ mostTested)
     pub full-small : e ≡ Ending.full → entries + length (s .listed) < product (decisionSizes p)

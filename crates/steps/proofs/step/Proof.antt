@@ -11,10 +11,10 @@ abbrev start : tie.After-struct-known → tie.Start
 start k = k .before .before .before .before .before .before .before .before .before .before
 
 returns : tie.Need-returns
-returns c = (λ t. step-enough t (omega arith), start (c .before) .pre .tables .planned)
+returns c = (λ t. step-all t (omega arith), start (c .before) .pre .tables .planned)
 
 returns-2 : tie.Need-returns-2
-returns-2 c = (λ t. step-all t (omega arith) (omega arith), start (c .before .before .before) .pre .tables .planned)
+returns-2 c = (λ t. step-enough t (omega arith) (omega arith), start (c .before .before .before) .pre .tables .planned)
 
 pop-requires : tie.Need-pop-requires
 pop-requires c κs = search needs
@@ -30,16 +30,16 @@ module _ (k : tie.After-pop) where
   abbrev began : tie.Start
   began = start (k .before .before .before .before .before)
 
-  wanting : began .args .g .listed < began .args .k
-  wanting = omega (arith, k .before .before .before .before .if1 .left)
-
   filled : 0 < began .args .g .queued
-  filled = omega (arith, k .before .before .if2 .left)
+  filled = omega (arith, k .before .before .before .before .if1 .left)
+
+  wanting : began .args .g .listed < began .args .k
+  wanting = omega (arith, k .before .before .if2 .left)
 
 expand-requires : tie.Need-expand-requires
 expand-requires c κs =
     let k = c .before .before .before .before .before .before .before .before .before in
-    removes (began k .pre) (wanting k) (filled k) _ (k .pop .kept .0) _ _ _ (k .pop .ensures) (c .from-entry .ensures)
+    removes (began k .pre) (filled k) (wanting k) _ (k .pop .kept .0) _ _ _ (k .pop .ensures) (c .from-entry .ensures)
 
 same-length : tie.Need-same-length
 same-length c = search needs
@@ -59,8 +59,8 @@ returns-3 c =
     let n = e .before .from-entry in
     let k = e .before .before .before .before .before .before .before .before .before .before in (
       λ t.
-          rw (step-removed t (wanting k) (filled k) _ (k .pop .kept .0) _ _ _ (k .pop .ensures) (n .ensures)) at
-          (e .expand .ensures .0 (removes t (wanting k) (filled k) _ (k .pop .kept .0) _ _ _ (k .pop .ensures) (n .ensures))),
+          rw (step-removed t (filled k) (wanting k) _ (k .pop .kept .0) _ _ _ (k .pop .ensures) (n .ensures)) at
+          (e .expand .ensures .0 (removes t (filled k) (wanting k) _ (k .pop .kept .0) _ _ _ (k .pop .ensures) (n .ensures))),
       e .expand .ensures .1,
     )
 
