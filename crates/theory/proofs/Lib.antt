@@ -13,6 +13,7 @@ pub mod Every
 pub mod Fields
 pub mod Filled
 pub mod Impostors
+pub mod LastState
 pub mod Listing
 pub mod Lists
 pub mod Longest

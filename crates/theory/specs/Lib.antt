@@ -2,6 +2,7 @@ pub mod BestFirst
 pub mod Consistency
 pub mod Demand3
 pub mod Digits
+pub mod LastState
 pub mod Longest
 pub mod Nodes
 pub mod Order
