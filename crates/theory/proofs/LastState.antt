@@ -17,7 +17,7 @@ use Rattle.model.specs.Consistency.{Tested, consistent, inconsistent, test}
 use Rattle.model.specs.Conflict.{Reduced, conflict, reduce}
 use Rattle.model.specs.Order.{Order, orderOf}
 use Rattle.model.specs.Listing.{State, Ending, enough, all, full, Next, ended, more, Checked, checked, brokenOff, checkOffers, firstUnresolved, resolving, branching, leaveOff, listedOne, mostTested, putChildren, learn, judge, expand, remove, step, run, start, enoughSteps, listing}
-use Rattle.model.specs.Calls.{refused, answered, Buffers, Counts, ran, unfinished, Answer, Called, firstGiven, hostGrounds, offersOf, calledOf, runOf, listingWith, resultWords, exportedOf, exportCall}
+use Rattle.model.specs.Calls.{refused, answered, Buffers, Counts, ran, unfinished, Answer, Called, firstGiven, hostGrounds, offersOf, calledOf, runOf, listingWith, exportedOf, exportCall}
 use Rattle.model.specs.Examples.{Settings, lists, lent, call, whole, ranWith, plain, tail, small, both, three}
 use Rattle.theory.specs.LastState.{formerRemove, formerStep, formerRun, formerRunOf, formerCall, formerExport, LeavesEmpty, CallLeavesEmpty, EndingChange, AnswerChange, CallChange, ExportChange}
 use Rattle.theory.proofs.Run.{differ}
@@ -25,6 +25,7 @@ use Rattle.theory.proofs.Demand3.{none-given, queue-given, run-demand3}
 
 -- ---- 'all' wins over 'enough' where the queue is empty
 
+-- of a former ending the present one, with what is queued
 abbrev wins : Ending → List Assignment → Ending
 wins enough [] = all
 wins enough (n ∷ rest) = enough
@@ -32,6 +33,7 @@ wins all queue = all
 wins full queue = full
 wins Ending.spent queue = Ending.spent
 
+-- of what a former step or run came to, what the present one comes to
 abbrev allWins : Next → Next
 allWins (ended e s) = ended (wins e (s .queue)) s
 allWins (more s) = more s
@@ -55,12 +57,14 @@ abbrev Expanded : State → List Assignment → Assignment → Next → Type 0
 Expanded s rest n (ended e t) = e ≡ enough → ⊥
 Expanded s rest n (more u) = (u .listed ≡ s .listed) ⊎ ((t : ℕ) × (u ≡ listedOne s rest (valueList n) t))
 
+-- so it came to the same before
 expanded-wins : (s : State) (rest : List Assignment) (n : Assignment) (x : Next) → Expanded s rest n x → allWins x ≡ x
 expanded-wins s rest n (ended e t) h = ap (λ (f : Ending). ended f t) (wins-other e h (t .queue))
 expanded-wins s rest n (more u) h = refl
 
 module _ (p : Plant) (o : Order) (k entries places limit : ℕ) where
   module _ (s : State) (rest : List Assignment) (n : Assignment) where
+    -- step 6
     put-expanded : (children : List Assignment) → Expanded s rest n (putChildren p o k entries places limit s rest children)
     unfolding putChildren
     put-expanded children = go (ltb entries (length rest + length (leaveOff (s .store) children))) refl
@@ -69,6 +73,7 @@ module _ (p : Plant) (o : Order) (k entries places limit : ℕ) where
         go true e = rw (putChildren, e) (λ d. differ (cc))
         go false e = rw (putChildren, e) (inl refl)
 
+    -- step 7, the test was inconsistent
     learn-expanded : (t : ℕ) → Expanded s rest n (learn p o k entries places limit s rest n t)
     unfolding learn
     learn-expanded t = go (ltb (length (s .store)) places) refl (reduce p limit n t) refl
@@ -78,6 +83,7 @@ module _ (p : Plant) (o : Order) (k entries places limit : ℕ) where
         go true e (conflict c t′) f = rw (learn, e, f) (inl refl)
         go true e (Reduced.spent t′) f = rw (learn, e, f) (λ d. differ (cc))
 
+    -- step 7
     judge-expanded : Expanded s rest n (judge p o k entries places limit s rest n)
     unfolding judge
     judge-expanded = go (ltb (s .tested) mostTested) refl (test p limit n (s .trials)) refl
@@ -88,6 +94,7 @@ module _ (p : Plant) (o : Order) (k entries places limit : ℕ) where
         go true e (inconsistent t) f = rw (judge, e, f) (learn-expanded t)
         go true e (Tested.spent t) f = rw (judge, e, f) (λ d. differ (cc))
 
+    -- steps 4 to 7
     expand-expanded : Expanded s rest n (expand p o k entries places limit s rest n)
     unfolding expand
     expand-expanded = go (firstUnresolved (s .store) n) refl (isFull n) refl
@@ -99,67 +106,88 @@ module _ (p : Plant) (o : Order) (k entries places limit : ℕ) where
 
   -- ---- the step and the run
 
-  step-wins : (s : State) → step p o k entries places limit s ≡ allWins (formerStep p o k entries places limit s)
+  -- with these settings: the former step and so many of them, the present ones, and that listing the k-th state leaves the queue empty
+  abbrev former : State → Next
+  former = formerStep p o k entries places limit
+
+  abbrev formerTo : ℕ → State → Next
+  formerTo = formerRun p o k entries places limit
+
+  abbrev present : State → Next
+  present = step p o k entries places limit
+
+  abbrev presentTo : ℕ → State → Next
+  presentTo = run p o k entries places limit
+
+  abbrev Leaves : State → Type 0
+  Leaves = LeavesEmpty p o k entries places limit
+
+  -- step 3
+  step-wins : (s : State) → present s ≡ allWins (former s)
   unfolding step remove formerStep formerRemove
   step-wins s = go (s .queue) refl (ltb (length (s .listed)) k) refl
     where
-      go : (q : List Assignment) → s .queue ≡ q → (b : Bool) → ltb (length (s .listed)) k ≡ b → step p o k entries places limit s ≡ allWins (formerStep p o k entries places limit s)
+      go : (q : List Assignment) → s .queue ≡ q → (b : Bool) → ltb (length (s .listed)) k ≡ b → present s ≡ allWins (former s)
       go [] f false e = rw (step, ap (remove p o k entries places limit s) f, formerStep, e) (ap (λ (q : List Assignment). ended (wins enough q) s) (sym f))
       go [] f true e = rw (step, ap (remove p o k entries places limit s) f, formerStep, e, ap (formerRemove p o k entries places limit s) f) refl
       go (n ∷ rest) f false e = rw (step, ap (remove p o k entries places limit s) f, remove, formerStep, e) (ap (λ (q : List Assignment). ended (wins enough q) s) (sym f))
       go (n ∷ rest) f true e = rw (step, ap (remove p o k entries places limit s) f, remove, formerStep, e, ap (formerRemove p o k entries places limit s) f)
           (sym (expanded-wins s rest n (expand p o k entries places limit s rest n) (expand-expanded s rest n)))
 
-  run-wins : (fuel : ℕ) (s : State) → run p o k entries places limit fuel s ≡ allWins (formerRun p o k entries places limit fuel s)
+  -- so many steps
+  run-wins : (fuel : ℕ) (s : State) → presentTo fuel s ≡ allWins (formerTo fuel s)
   unfolding run formerRun
   run-wins zero s = refl
-  run-wins (suc fuel) s = go (formerStep p o k entries places limit s) refl (run-wins fuel)
+  run-wins (suc fuel) s = go (former s) refl (run-wins fuel)
     where
-      go : (x : Next) → formerStep p o k entries places limit s ≡ x → ((t : State) → run p o k entries places limit fuel t ≡ allWins (formerRun p o k entries places limit fuel t))
-          → run p o k entries places limit (suc fuel) s ≡ allWins (formerRun p o k entries places limit (suc fuel) s)
-      go (ended e t) f ih = let h : step p o k entries places limit s ≡ ended (wins e (t .queue)) t = step-wins s ∙ ap allWins f in rw (run, h, formerRun, f) refl
-      go (more t) f ih = let h : step p o k entries places limit s ≡ more t = step-wins s ∙ ap allWins f in rw (run, h, formerRun, f) (ih t)
+      go : (x : Next) → former s ≡ x → ((t : State) → presentTo fuel t ≡ allWins (formerTo fuel t))
+          → presentTo (suc fuel) s ≡ allWins (formerTo (suc fuel) s)
+      go (ended e t) f ih = let h : present s ≡ ended (wins e (t .queue)) t = step-wins s ∙ ap allWins f in rw (run, h, formerRun, f) refl
+      go (more t) f ih = let h : present s ≡ more t = step-wins s ∙ ap allWins f in rw (run, h, formerRun, f) (ih t)
 
   -- ---- where the queue was left empty the run ended 'enough'
 
   -- a run goes on from where it stands, or has ended
   abbrev onward : ℕ → Next → Next
   onward fuel (ended e t) = ended e t
-  onward fuel (more t) = formerRun p o k entries places limit fuel t
+  onward fuel (more t) = formerTo fuel t
 
-  former-onward : (m n : ℕ) (s : State) → formerRun p o k entries places limit (m + n) s ≡ onward n (formerRun p o k entries places limit m s)
+  -- so many steps and so many more
+  former-onward : (m n : ℕ) (s : State) → formerTo (m + n) s ≡ onward n (formerTo m s)
   unfolding formerRun
   former-onward zero n s = rw (zero-add n) refl
-  former-onward (suc m) n s = rw (suc-add m n) (go (formerStep p o k entries places limit s) refl (former-onward m n))
+  former-onward (suc m) n s = rw (suc-add m n) (go (former s) refl (former-onward m n))
     where
-      go : (x : Next) → formerStep p o k entries places limit s ≡ x → ((t : State) → formerRun p o k entries places limit (m + n) t ≡ onward n (formerRun p o k entries places limit m t))
-          → formerRun p o k entries places limit (suc (m + n)) s ≡ onward n (formerRun p o k entries places limit (suc m) s)
+      go : (x : Next) → former s ≡ x → ((t : State) → formerTo (m + n) t ≡ onward n (formerTo m t))
+          → formerTo (suc (m + n)) s ≡ onward n (formerTo (suc m) s)
       go (ended e t) f ih = rw (formerRun, f) refl
       go (more t) f ih = rw (formerRun, f) (ih t)
 
-  module _ (s : State) (l : LeavesEmpty p o k entries places limit s) where
+  module _ (s : State) (l : Leaves s) where
     -- the state with the k-th listed
     abbrev last : State
     last = listedOne (l .before) [] (valueList (l .node)) (l .trials)
 
-    last-ends : formerStep p o k entries places limit last ≡ ended enough last
+    -- the former step ends there
+    last-ends : former last ≡ ended enough last
     unfolding formerStep
     last-ends = rw (formerStep, le-ltb (length (last .listed)) k (simp length-append (omega (arith, l .fewer)))) refl
 
-    last-reached : formerRun p o k entries places limit (l .steps + 2) s ≡ ended enough last
+    -- and the former run comes to it
+    last-reached : formerTo (l .steps + 2) s ≡ ended enough last
     unfolding formerRun
     last-reached =
-        let there : formerRun p o k entries places limit (l .steps) s ≡ more (l .before) = wins-more (formerRun p o k entries places limit (l .steps) s) (l .before) (sym (run-wins (l .steps) s) ∙ l .reached) in
-        let next : formerStep p o k entries places limit (l .before) ≡ more last = wins-more (formerStep p o k entries places limit (l .before)) last (sym (step-wins (l .before)) ∙ l .lists) in
+        let there : formerTo (l .steps) s ≡ more (l .before) = wins-more (formerTo (l .steps) s) (l .before) (sym (run-wins (l .steps) s) ∙ l .reached) in
+        let next : former (l .before) ≡ more last = wins-more (former (l .before)) last (sym (step-wins (l .before)) ∙ l .lists) in
         former-onward (l .steps) 2 s ∙ ap (onward 2) there ∙ rw (formerRun, next, formerRun, last-ends) refl
 
     -- however many steps are allowed, it ends so where it ends
-    left-enough : (fuel : ℕ) (e : Ending) (t : State) → formerRun p o k entries places limit fuel s ≡ ended e t → (e ≡ enough) × (t .queue ≡ [])
+    left-enough : (fuel : ℕ) (e : Ending) (t : State) → formerTo fuel s ≡ ended e t → (e ≡ enough) × (t .queue ≡ [])
     left-enough fuel e t h =
-        let long : formerRun p o k entries places limit (fuel + (l .steps + 2)) s ≡ ended e t = former-onward fuel (l .steps + 2) s ∙ ap (onward (l .steps + 2)) h in
-        let also : formerRun p o k entries places limit (l .steps + 2 + fuel) s ≡ ended enough last = former-onward (l .steps + 2) fuel s ∙ ap (onward fuel) last-reached in
+        let long : formerTo (fuel + (l .steps + 2)) s ≡ ended e t = former-onward fuel (l .steps + 2) s ∙ ap (onward (l .steps + 2)) h in
+        let also : formerTo (l .steps + 2 + fuel) s ≡ ended enough last = former-onward (l .steps + 2) fuel s ∙ ap (onward fuel) last-reached in
         let sum : fuel + (l .steps + 2) ≡ l .steps + 2 + fuel = omega arith in
-        let same : ended e t ≡ ended enough last = sym long ∙ ap (λ (m : ℕ). formerRun p o k entries places limit m s) sum ∙ also in
+        let same : ended e t ≡ ended enough last = sym long ∙ ap (λ (m : ℕ). formerTo m s) sum ∙ also in
         let ending : e ≡ enough = cc in
         let state : t ≡ last = cc in
         (ending, ap (λ (u : State). u .queue) state)
@@ -167,7 +195,7 @@ module _ (p : Plant) (o : Order) (k entries places limit : ℕ) where
   -- ---- where it ended 'enough' with an empty queue, listing the k-th state left it so
 
   -- a step earlier
-  left-earlier : (s t : State) → step p o k entries places limit s ≡ more t → LeavesEmpty p o k entries places limit t → LeavesEmpty p o k entries places limit s
+  left-earlier : (s t : State) → present s ≡ more t → Leaves t → Leaves s
   unfolding run
   left-earlier s t h l = record {
     steps = suc (l .steps);
@@ -181,25 +209,25 @@ module _ (p : Plant) (o : Order) (k entries places limit : ℕ) where
   }
 
   -- with k listed a run ends where it stands
-  former-stops : (fuel : ℕ) (s t : State) (e : Ending) → k ≤ length (s .listed) → formerRun p o k entries places limit fuel s ≡ ended e t → t ≡ s
+  former-stops : (fuel : ℕ) (s t : State) (e : Ending) → k ≤ length (s .listed) → formerTo fuel s ≡ ended e t → t ≡ s
   unfolding formerRun formerStep
   former-stops zero s t e h r = differ (cc)
   former-stops (suc fuel) s t e h r =
-      let stopped : formerStep p o k entries places limit s ≡ ended enough s = rw (formerStep, le-ltb (length (s .listed)) k h) refl in
+      let stopped : former s ≡ ended enough s = rw (formerStep, le-ltb (length (s .listed)) k h) refl in
       let same : ended enough s ≡ ended e t = rw (formerRun, stopped) at r in
       cc
 
   module _ (fuel : ℕ) (s t : State) (n : Assignment) (rest : List Assignment) (head : s .queue ≡ n ∷ rest) (below : length (s .listed) < k) (empty : t .queue ≡ [])
-      (ends : formerRun p o k entries places limit (suc fuel) s ≡ ended enough t)
-      (later : (u : State) → length (u .listed) < k → formerRun p o k entries places limit fuel u ≡ ended enough t → LeavesEmpty p o k entries places limit u) where
+      (ends : formerTo (suc fuel) s ≡ ended enough t)
+      (later : (u : State) → length (u .listed) < k → formerTo fuel u ≡ ended enough t → Leaves u) where
     -- behind a step after which it goes on
-    left-on : (u : State) → formerStep p o k entries places limit s ≡ more u → formerRun p o k entries places limit fuel u ≡ ended enough t
+    left-on : (u : State) → former s ≡ more u → formerTo fuel u ≡ ended enough t
     unfolding formerRun
     left-on u f = rw (formerRun, f) at ends
 
     -- the k-th state is listed
-    left-listed : (u : State) (trials : ℕ) → formerStep p o k entries places limit s ≡ more u → u ≡ listedOne s rest (valueList n) trials → suc (length (s .listed)) ≡ k
-        → LeavesEmpty p o k entries places limit s
+    left-listed : (u : State) (trials : ℕ) → former s ≡ more u → u ≡ listedOne s rest (valueList n) trials → suc (length (s .listed)) ≡ k
+        → Leaves s
     unfolding run
     left-listed u trials f is most =
         let long : k ≤ length (u .listed) = rw is (simp length-append (omega arith)) in
@@ -217,7 +245,8 @@ module _ (p : Plant) (o : Order) (k entries places limit : ℕ) where
           lists = step-wins s ∙ ap allWins f ∙ ap more same;
         }
 
-    left-step : (x : Next) → formerStep p o k entries places limit s ≡ x → Expanded s rest n x → LeavesEmpty p o k entries places limit s
+    -- whatever the step comes to
+    left-step : (x : Next) → former s ≡ x → Expanded s rest n x → Leaves s
     unfolding formerRun
     left-step (ended e u) f h = let same : ended e u ≡ ended enough t = rw (formerRun, f) at ends in absurd (h (cc))
     left-step (more u) f (inl same) = left-earlier s u (step-wins s ∙ ap allWins f) (later u (rw same below) (left-on u f))
@@ -226,18 +255,19 @@ module _ (p : Plant) (o : Order) (k entries places limit : ℕ) where
       | no few ↦ left-earlier s u (step-wins s ∙ ap allWins f) (later u (rw (h .1) (simp length-append (omega arith))) (left-on u f))
     ]
 
-  enough-left : (fuel : ℕ) (s t : State) → length (s .listed) < k → formerRun p o k entries places limit fuel s ≡ ended enough t → t .queue ≡ [] → LeavesEmpty p o k entries places limit s
+  -- from a state with fewer than k listed
+  enough-left : (fuel : ℕ) (s t : State) → length (s .listed) < k → formerTo fuel s ≡ ended enough t → t .queue ≡ [] → Leaves s
   unfolding formerRun formerStep formerRemove
   enough-left zero s t below ends empty = differ (cc)
   enough-left (suc fuel) s t below ends empty = go (s .queue) refl (λ u b e. enough-left fuel u t b e empty)
     where
-      opened : formerStep p o k entries places limit s ≡ formerRemove p o k entries places limit s (s .queue)
+      opened : former s ≡ formerRemove p o k entries places limit s (s .queue)
       opened = rw (formerStep, lt-ltb (length (s .listed)) k below) refl
 
-      go : (q : List Assignment) → s .queue ≡ q → ((u : State) → length (u .listed) < k → formerRun p o k entries places limit fuel u ≡ ended enough t → LeavesEmpty p o k entries places limit u)
-          → LeavesEmpty p o k entries places limit s
+      go : (q : List Assignment) → s .queue ≡ q → ((u : State) → length (u .listed) < k → formerTo fuel u ≡ ended enough t → Leaves u)
+          → Leaves s
       go [] f later =
-          let stopped : formerStep p o k entries places limit s ≡ ended all s = opened ∙ ap (formerRemove p o k entries places limit s) f in
+          let stopped : former s ≡ ended all s = opened ∙ ap (formerRemove p o k entries places limit s) f in
           let same : ended all s ≡ ended enough t = rw (formerRun, stopped) at ends in
           differ (cc)
       go (n ∷ rest) f later =
@@ -263,6 +293,7 @@ module _ (sheet : List ℕ) (k : ℕ) (b : Buffers) (held limit : ℕ) (resultSh
   refused-author n q l = differ (cc (l .says))
 
   module _ (fit : firstGiven (hostGrounds k b held resultShort) ≡ none) (p : Plant) (end : ℕ) (says : readSheet edition1 sheet ≡ got p end) where
+    -- the accepted call's run
     run-of-wins : runOf p k b held limit ≡ allWins (formerRunOf p k b held limit)
     unfolding runOf listing formerRunOf
     run-of-wins = go (checkOffers p limit [] (offersOf held (b .store)) 0) refl
@@ -299,6 +330,7 @@ module _ (sheet : List ℕ) (k : ℕ) (b : Buffers) (held limit : ℕ) (resultSh
         }
         go (brokenOff survivors used) q = let same : ended Ending.spent (start (decisionSizes p) survivors used) ≡ ended enough s = rw (formerRunOf, q) at h in differ (cc)
 
+    -- so the endings changed just there
     ending-change : (e : Ending) (s : State) → formerRunOf p k b held limit ≡ ended e s → EndingChange Empty e (wins e (s .queue))
     ending-change e s h = go e refl (s .queue) refl
       where
