@@ -301,8 +301,8 @@ check_named() {
         --limit 5 examples/small.plant
     printf 'part lever: ahead 0, idle 3\nnever\n' > "$none"
     lists $'all 0 tested 1 learned 1 unkept 0 trials 0\nno explanation\nno state fits' "$none"
-    python3 -B examples/plant_text.py list -k 30 examples/ties.plant | grep -q '^all 30 ' ||
-        fail "ties -k 30: not all"
+    python3 -B examples/plant_text.py list -k 30 examples/ties.plant > "$out/printed"
+    grep -q '^all 30 ' "$out/printed" || fail "ties -k 30: not all"
     python3 -B examples/plant_text.py list -k 0 "$none" > "$out/printed" 2> "$out/reason" ||
         status=$?
     [ "$status" = 1 ] || fail "list -k 0: status $status"

@@ -235,8 +235,8 @@ enum leading_result {
  * LEADING_ALL says that no other state fits. Where k states are listed it is
  * LEADING_ALL if the search came to its end with the last of them, and otherwise
  * LEADING_ENOUGH: then another state may fit or none, and a call with a greater k
- * can tell. Which of the two it is may depend on the conflicts offered; the list
- * does not.
+ * can tell. Where just k states fit, which of the two it is may depend on the store
+ * and the conflicts offered in it; the list does not.
  */
 enum leading_ending {
     LEADING_ENOUGH = 1, /* k states are listed, and there may be more */
