@@ -4,7 +4,7 @@ from functools import lru_cache
 from random import Random
 from typing import NamedTuple
 
-from listing import Settings, listing
+from listing import Run as Steps, Settings, listing, order
 from plant import Literal, Plant, Refusal, encode
 from shapes import nogood_plant, random_words, shaped, small_random_plant, spoil
 from sheet_cases import (
@@ -230,13 +230,50 @@ def last_state_runs(rng):
     return runs
 
 
+OTHER_VALUES = {
+    "the highest on a tie": lambda costs: max(x for x, c in enumerate(costs) if c == min(costs)),
+    "the last unseen": lambda costs: costs.index(min(costs[:-1] or costs)),
+    "always value 0": lambda costs: 0,
+}
+
+
+def with_values(value_of):
+    """Steps with other values than the cheapest in the best states of nodes."""
+
+    class Other(Steps):
+        def queue_entry(self, node):
+            pairs = zip(node, self.plant.costs)
+            state = tuple(value_of(c) if x is None else x for x, c in pairs)
+            return order(self.plant, state), node
+
+    return Other
+
+
+def answer_with(run, value_of):
+    return listing(run.sheet, settings_of(run), with_values(value_of))
+
+
+def cheapest_value_runs(rng):
+    """For each of the other values, runs that come out otherwise with it."""
+    runs = []
+    for value_of in OTHER_VALUES.values():
+        enough = len(runs) + 6
+        while len(runs) < enough:
+            sizes = [rng.randint(2, 4) for _ in range(rng.randint(2, 4))]
+            plant = shaped(rng, sizes, len(sizes), [2] * rng.randint(0, 5), "small")
+            run = Run(encode(plant), 40, 40, 40, 600, 2 * rng.choice([0, 3, 20]))
+            if answer_with(run, value_of) != answer_run(run):
+                runs.append(run)
+    return runs
+
+
 @lru_cache(maxsize=1)
 def listing_cases():
     rng = Random(303)
     cases = table_runs() + host_refusal_runs() + author_refusal_runs()
     cases += random_runs(rng) + queue_runs(rng)
     cases += wide_runs(rng) + contradiction_runs(rng)
-    return cases + last_state_runs(Random(404))
+    return cases + last_state_runs(Random(404)) + cheapest_value_runs(Random(505))
 
 
 def words_bytes(words, width):

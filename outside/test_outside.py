@@ -14,7 +14,7 @@ import sheet_cases
 import table_cases
 import test_cases
 import vectors
-from listing import Run, Settings, export, leading, listing
+from listing import Run, Settings, best_state, export, leading, listing, order
 from plant import Plant, Refusal, encode, fields, pack, read
 from search import Meter, is_false, reduce_call, reduce_within, test, test_call
 from shapes import nogood_plant, random_assignment, random_words
@@ -439,6 +439,38 @@ class LastState(unittest.TestCase):
         self.assertEqual([], check_rest(result, plant, settings))
         result.ending = "enough"
         self.assertEqual(1, len(check_rest(result, plant, settings)))
+
+
+class CheapestValues(unittest.TestCase):
+    """Request L3: each unassigned variable at its cheapest value, the lowest on a tie."""
+
+    def test_best_state(self):
+        """By brute force: of all states of a node its best state comes first."""
+        rng = Random(11)
+        tied = 0
+        for _ in range(500):
+            plant = small_random_plant(rng, 300)
+            node = random_assignment(rng, plant, 0.3)
+            domains = [range(len(costs)) for costs in plant.costs]
+            states = product(*([x] if x is not None else d for x, d in zip(node, domains)))
+            first = min(states, key=lambda state: order(plant, state))
+            self.assertEqual(first, best_state(plant, node))
+            tied += any(costs.count(min(costs)) > 1 for costs in plant.costs)
+        self.assertLess(100, tied)
+
+    def test_other_values(self):
+        """Stored listings tell other values from the cheapest, and these from nothing."""
+        cases = listing_cases.listing_cases()
+        runs = [run for run in cases if refusal_of(listing_cases.answer_run, run) is None]
+        right = [listing_cases.answer_run(run) for run in runs]
+
+        def told_apart(value_of):
+            other = (listing_cases.answer_with(run, value_of) for run in runs)
+            return sum(a != b for a, b in zip(right, other))
+
+        self.assertEqual(0, told_apart(lambda costs: costs.index(min(costs))))
+        for name, value_of in listing_cases.OTHER_VALUES.items():
+            self.assertLess(10, told_apart(value_of), name)
 
 
 class Impostors(unittest.TestCase):

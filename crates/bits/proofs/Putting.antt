@@ -14,9 +14,9 @@ use Rattle.model.specs.Digits.{number, digits}
 use Rattle.theory.specs.Digits.{Below}
 use Rattle.theory.specs.Puts.{written, bitsOf}
 use Rattle.theory.proofs.Lists.{all-join, in-turn-join}
-use Rattle.theory.proofs.Digits.{digits-length, below-at, digits-low, digits-join, digits-made, number-below, number-first, number-same}
+use Rattle.theory.proofs.Digits.{digits-length, below-at, digits-low, digits-join, digits-made, number-below, number-first, number-same, zeros-behind}
 use Rattle.theory.proofs.Fields.{bytes-bits, below-drop}
-use Rattle.theory.proofs.Written.{zeros-behind, below-take}
+use Rattle.theory.proofs.Written.{below-take}
 use Rattle.theory.proofs.Puts.{written-length}
 use Rattle.theory.proofs.Bits.{bits-length}
 use Rattle.bits.specs.Blend.{blended}

@@ -20,6 +20,8 @@ use Rattle.theory.proofs.Digits.{number-digit}
 use Rattle.theory.proofs.Agreement.{fits-length, fits-at, valid-length, valid-set, values-full, full-valid}
 use Rattle.theory.proofs.Nodes.{best-fits}
 use Rattle.theory.proofs.Order.{cost-set}
+use Rattle.theory.proofs.Tables.{rows-at}
+use Rattle.theory.proofs.Value.{digit-preferred}
 use Rattle.theory.proofs.Words.{valid-small}
 use Rattle.theory.proofs.WordsSet.{assign-words, remove-words}
 use Rattle.theory.proofs.WordsCost.{fits-below}
@@ -75,10 +77,7 @@ words-are {p} {n} i =
 
 -- a row of the table at its place
 row-at : (sizes costs : List ℕ) (v x : ℕ) → v < length sizes → x < getD sizes v 0 → x < 16 → getD (getD (rows sizes costs) v []) x 0 ≡ getD costs (16 * v + x) 0
-unfolding rows
-row-at [] costs v x l h s = absurd (omega arith)
-row-at (n ∷ sizes) costs zero x l h s = getD-take n (take 16 costs) x 0 h ∙ getD-take 16 costs x 0 s ∙ ap (λ (i : ℕ). getD costs i 0) (omega arith)
-row-at (n ∷ sizes) costs (suc v) x l h s = row-at sizes (drop 16 costs) v x (omega arith) h s ∙ getD-drop 16 costs (16 * v + x) 0 ∙ ap (λ (i : ℕ). getD costs i 0) (omega arith)
+row-at sizes costs v x l h s = rw (rows-at sizes costs v l, getD-take (getD sizes v 0) (take 16 (drop (16 * v) costs)) x 0 h, getD-take 16 (drop (16 * v) costs) x 0 s) (getD-drop (16 * v) costs x 0)
 
 -- one value of a full assignment is set
 full-set : (f : List ℕ) (v x : ℕ) → set (full f) v (some x) ≡ full (set f v x)
@@ -121,8 +120,7 @@ module _ {p : Plant} {n : Assignment} {node : Node} {v : ℕ} {costs : List ℕ}
   old-is : getD (digits 16 16 preferred) v 0 ≡ getD state v 0
   old-is =
       let full-long = fits-length (decisionSizes p) (orderOf p .preferred) (suits p ok .preferred) in
-      rw (f .table .preferred-is) (number-digit 16 16 v (orderOf p .preferred) (omega arith) (fits-below (decisionSizes p) (orderOf p .preferred) small (suits p ok .preferred))
-      (omega (arith, full-long, domains, few p ok)) (omega (arith, full-long, domains, f .within)))
+      digit-preferred p ok preferred (f .table .preferred-is) v
       ∙ sym (best-at (orderOf p .preferred) n v (omega (arith, full-long, valid-length (decisionSizes p) n (i .valid))) (omega (arith, valid-length (decisionSizes p) n (i .valid), domains, f .within)) (f .free))
 
   -- what the table says a value costs
@@ -167,4 +165,4 @@ module _ {p : Plant} {n : Assignment} {node : Node} {v : ℕ} {costs : List ℕ}
   }
     where
       digit-is : getD (digits 16 16 (code state)) v 0 ≡ getD (digits 16 16 preferred) v 0
-      digit-is = number-digit 16 16 v state (omega arith) (fits-below (decisionSizes p) state small fits) (omega (arith, state-long, few p ok)) (omega (arith, state-long, f .within)) ∙ sym old-is
+      digit-is = number-digit 16 16 v state (omega arith) (fits-below (decisionSizes p) state small fits) (omega (arith, state-long, few p ok)) ∙ sym old-is

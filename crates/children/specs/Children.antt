@@ -13,6 +13,7 @@ use Rattle.model.specs.Order.{Order, best, orderOf}
 use Rattle.model.specs.Listing.{leaveOff, enqueueAll}
 use Rattle.theory.specs.Plant.{Accepted}
 use Rattle.theory.specs.Tables.{rows}
+use Rattle.theory.specs.Value.{CheapestValues}
 use Rattle.queue.specs.Queue.{Holds}
 use Rattle.store.specs.Store.{Keeps}
 use Rattle.children.specs.declared.Node.{Node}
@@ -28,10 +29,10 @@ pub record NodeIs (p : Plant) (n : Assignment) (node : Node) : Type 0 where
   pub code-is : node .code ≡ code (best (orderOf p .preferred) n)
   pub cost-is : node .cost ≡ orderOf p .figure (best (orderOf p .preferred) n)
 
--- a plant's costs in a table with sixteen entries for each variable, and the code of its preferred values
+-- a plant's costs in a table with sixteen entries for each variable, and the word that hands in each variable's cheapest value
 pub record Table (p : Plant) (costs : List ℕ) (preferred : ℕ) : Type 0 where
   pub rows-are : p .costs ≡ rows (decisionSizes p) costs
-  pub preferred-is : preferred ≡ code (orderOf p .preferred)
+  pub preferred-is : CheapestValues p preferred
 
 -- the same with the sizes of its d decision variables, which other sizes may follow
 pub record Tables (p : Plant) (d : ℕ) (sizes costs : List ℕ) (preferred : ℕ) : Type 0 where

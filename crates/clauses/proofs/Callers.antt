@@ -1,9 +1,7 @@
--- For callers: tables over more variables, and a table of nothing. Assumes nothing.
-use mathlib.Core.Path.{_≡_, refl}
+-- For callers: tables over more variables. Assumes nothing.
 use mathlib.Core.List.{List}
-use Prim.Native.Nat.{ℕ, zero, suc, _<_, _≤_}
+use Prim.Native.Nat.{ℕ, _<_, _≤_}
 use native.Mathlib.Omega.{arith}
-use lib.ListN.{getD, replicate}
 use Rattle.model.specs.Sheet.{Literal}
 use Rattle.model.specs.Tables.{clauses}
 use Rattle.theory.proofs.Lists.{all-map}
@@ -16,9 +14,3 @@ tables-more n m counts lits h t = record {
   room = t .room;
   below = all-map (all-map {P = λ (l : Literal). l .variable < n} {Q = λ (l : Literal). l .variable < m} (λ l b. omega arith)) (clauses counts lits) (t .below);
 }
-
--- a table of nothing
-pub zeros : (n k : ℕ) → getD {A = ℕ} (replicate n 0) k 0 ≡ 0
-zeros zero k = refl
-zeros (suc n) zero = refl
-zeros (suc n) (suc k) = zeros n k

@@ -4,10 +4,9 @@ use mathlib.Core.List.{List}
 use Prim.Native.Nat.{ℕ}
 use lib.ListN.{length}
 use Rattle.model.specs.Sheet.{Plant}
-use Rattle.model.specs.Assignment.{code}
-use Rattle.model.specs.Order.{orderOf}
 use Rattle.model.specs.Tables.{clauses}
 use Rattle.theory.specs.Tables.{Tabled}
+use Rattle.theory.specs.Value.{CheapestValues}
 use Rattle.plan.specs.Plans.{planWords}
 use Rattle.clauses.specs.Tables.{Prepared}
 use Rattle.children.specs.declared.Node.{Node}
@@ -17,12 +16,12 @@ use Rattle.judge.specs.declared.Ending.{Ending as Ended}
 use Rattle.judge.specs.declared.Next.{Next as After}
 use Rattle.judge.specs.Standing.{Question, Removed}
 
--- a plant's tables, with what is made of them once, the sets of clauses and the code of the preferred values, and room for the search
+-- a plant's tables, with what is made of them once, the sets of clauses and the word that hands in each decision variable's cheapest value, and room for the search
 pub record Tables (p : Plant) (d : ℕ) (sizes prices counts lits sat uses plan : List ℕ) (preferred : ℕ) : Type 0 where
   pub tabled : Tabled p d sizes prices counts lits
   pub prepared : Prepared (clauses counts lits) sat uses
   pub planned : length plan ≡ planWords
-  pub preferred-is : preferred ≡ code (orderOf p .preferred)
+  pub preferred-is : CheapestValues p preferred
 
 -- before steps 4 to 7: a node has been removed
 pub record Expands (d : ℕ) (sizes prices counts lits sat uses plan : List ℕ) (preferred limit : ℕ) (codes costs queue store : List ℕ) (g : Progress) (node : Node) : Type 0 where

@@ -4,12 +4,12 @@ use mathlib.Core.List.{List}
 use Prim.Native.Nat.{ℕ, _*_, _/_, _≤_}
 use lib.ListN.{length}
 use Rattle.model.specs.Sheet.{Plant}
-use Rattle.model.specs.Assignment.{code}
 use Rattle.model.specs.Order.{orderOf}
 use Rattle.model.specs.Listing.{Next, listing}
 use Rattle.model.specs.Calls.{Buffers, offersOf, buffersAfter, runOf, calledOf}
 use Rattle.model.specs.Tables.{clauses}
 use Rattle.theory.specs.Tables.{Tabled}
+use Rattle.theory.specs.Value.{CheapestValues}
 use Rattle.plan.specs.Plans.{planWords}
 use Rattle.clauses.specs.Tables.{Prepared}
 use Rattle.store.proofs.Callers.{keeps-room}
@@ -21,7 +21,7 @@ use Rattle.listing.specs.Listing.{question, buffers, Room, Lists, Finish
 
 -- a plant's tables and buffers with room are what steps 1 to 7 are given
 abbrev pub lists-of : {p : Plant} {d : ℕ} {sizes prices counts lits sat uses plan : List ℕ} {preferred k held : ℕ} {b : Buffers} → Tabled p d sizes prices counts lits → Prepared (clauses counts lits) sat uses
-    → length plan ≡ planWords → preferred ≡ code (orderOf p .preferred) → Room k held b → Lists d sizes prices counts lits sat uses plan preferred k held b
+    → length plan ≡ planWords → CheapestValues p preferred → Room k held b → Lists d sizes prices counts lits sat uses plan preferred k held b
 lists-of {p = p} t s l e r = record { plant = p; tables = record { tabled = t; prepared = s; planned = l; preferred-is = e }; room = r }
 
 -- the store has room for the conflicts that it keeps at the end

@@ -14,10 +14,12 @@ use Rattle.model.specs.Listing.{Checked, checked, brokenOff, checkOffers, enque
 use Rattle.model.specs.Calls.{offersOf}
 use Rattle.theory.specs.Nodes.{weights}
 use Rattle.theory.specs.Tables.{Tabled}
+use Rattle.theory.specs.Value.{CheapestValues}
 use Rattle.theory.specs.Words.{sixteens}
 use Rattle.theory.proofs.Digits.{number-zeros}
 use Rattle.theory.proofs.Nodes.{unassigned-valid}
 use Rattle.theory.proofs.Tables.{tabled-count, tabled-few, tabled-rows}
+use Rattle.theory.proofs.Value.{handed-is}
 use Rattle.theory.proofs.WordsCost.{cost-of-code}
 use Rattle.theory.proofs.Listing.{Survived, offers-survive, start-going}
 use Rattle.queue.specs.Queue.{Holds}
@@ -52,9 +54,10 @@ module _ {p : Plant} {d : ℕ} {sizes prices counts lits : List ℕ} (t : Tabled
   unfolding orderOf
   preferred-cost = rw (← tabled-count t) (cost-of-code (p .costs) prices (orderOf p .preferred) (omega (arith, tabled-count t, tabled-few t)) (tabled-suits t .small) (tabled-rows t) (tabled-suits t .preferred))
 
-  pub root-is : (preferred figure : ℕ) → figure ≡ cost (sixteens d prices) (digits 16 16 preferred) → preferred ≡ code (orderOf p .preferred)
+  pub root-is : (preferred figure : ℕ) → figure ≡ cost (sixteens d prices) (digits 16 16 preferred) → CheapestValues p preferred
       → NodeIs p (unassigned (decisionSizes p)) (record { mask = 0; code = preferred; cost = figure })
-  root-is preferred figure c e =
+  root-is preferred figure c h =
+      let e : preferred ≡ code (orderOf p .preferred) = handed-is p (t .accepted) preferred h in
       let b : best (orderOf p .preferred) (unassigned (decisionSizes p)) ≡ orderOf p .preferred = best-unassigned (decisionSizes p) (orderOf p .preferred) (tabled-suits t .preferred) in
       record {
         accepted = t .accepted;

@@ -19,11 +19,12 @@ ghost use mathlib.Core.List.{List};
 ghost use Prim.Native.Nat.{ℕ, _*_, _/_, _≤_};
 ghost use lib.ListN.{length};
 ghost use Rattle.model.specs.Sheet.{Plant, decisionSizes};
-ghost use Rattle.model.specs.Assignment.{Assignment, code};
+ghost use Rattle.model.specs.Assignment.{Assignment};
 ghost use Rattle.model.specs.Order.{orderOf};
 ghost use Rattle.model.specs.Listing.{unassigned, start, enoughSteps, run, listing};
 ghost use Rattle.model.specs.Calls.{offersOf};
 ghost use Rattle.theory.specs.Tables.{Tabled};
+ghost use Rattle.theory.specs.Value.{CheapestValues};
 ghost use Rattle.children.specs.Children.{NodeIs};
 ghost use Rattle.steps.specs.Run.{FinishedAs};
 ghost use Rattle.listing.specs.Listing.{question, buffers, Room, Lists, first, Survivors, Finishes, CalledAs, plantCall};
@@ -46,7 +47,7 @@ pub enum Answer {
 // The empty assignment as a node.
 fn root(preferred: u64, prices: &[u16], d: usize) -> Node
     requires { ⌜ (d ≤ 16) × (16 * d ≤ length (now prices)) ⌝ }
-    ensures { λ r. ⌜ ((p : Plant) (sizes counts lits : List ℕ) → Tabled p d sizes (now (prices .entry)) counts lits → preferred ≡ code (orderOf p .preferred) → NodeIs p (unassigned (decisionSizes p)) r) ⌝ }
+    ensures { λ r. ⌜ ((p : Plant) (sizes counts lits : List ℕ) → Tabled p d sizes (now (prices .entry)) counts lits → CheapestValues p preferred → NodeIs p (unassigned (decisionSizes p)) r) ⌝ }
 {
     Node {
         mask: 0,

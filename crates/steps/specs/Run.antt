@@ -8,7 +8,7 @@ use Rattle.judge.specs.Standing.{Question, Written, Turn, endingOf}
 use Rattle.expand.specs.Expands.{Tables}
 use Rattle.steps.specs.declared.Finished.{Finished}
 
--- before step 3
+-- before step 3; `tables` says that the word handed in has each decision variable's cheapest value, the lowest on a tie
 pub record Steps (d : ℕ) (sizes prices counts lits sat uses plan : List ℕ) (preferred k limit : ℕ) (codes costs queue store : List ℕ) (g : Progress) : Type 0 where
   pub question : Question
   pub state : State

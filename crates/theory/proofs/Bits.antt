@@ -14,10 +14,10 @@ use Rattle.model.specs.Tables.{packed}
 use Rattle.theory.specs.Digits.{Below}
 use Rattle.theory.specs.Puts.{written, bitsOf}
 use Rattle.theory.proofs.Lists.{all-join, all-left, in-turn-join, all-any, in-turn-length}
-use Rattle.theory.proofs.Digits.{digits-length, digits-below, digits-made, number-below, number-digits, number-first, number-same}
+use Rattle.theory.proofs.Digits.{digits-length, digits-below, digits-made, number-below, number-digits, number-first, number-same, zeros-behind}
 use Rattle.theory.proofs.Fields.{below-drop}
 use Rattle.theory.proofs.Puts.{drop-past}
-use Rattle.theory.proofs.Written.{zeros-behind, below-take, below-in-turn}
+use Rattle.theory.proofs.Written.{below-take, below-in-turn}
 
 -- ---- the bits of bytes
 

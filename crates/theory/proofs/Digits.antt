@@ -12,7 +12,7 @@ use lib.Seq.{drop-cons}
 use lib.Arith.{digits-lt, digits-div, mod-mul}
 use lib.Pow.{pow-add}
 use lib.Dec.{eqb, eqb·suc-zero}
-use lib.ListN.{length, getD, take, drop, set, replicate, List·getD-append}
+use lib.ListN.{length, getD, take, drop, set, replicate}
 use borrow.Author.Tests.{ne-eqb}
 use Rattle.model.specs.Digits.{number, digits}
 use Rattle.model.specs.Assignment.{allZero}
@@ -130,9 +130,20 @@ number-zeros b zero n = refl
 number-zeros b (suc k) zero = refl
 number-zeros b (suc k) (suc n) = omega (arith, zero-mul (b ^ k), number-zeros b k n)
 
--- a digit of a number made of digits
-pub number-digit : (b k v : ℕ) (ds : List ℕ) → 0 < b → Below b ds → length ds ≤ k → v < length ds → getD (digits b k (number b k ds)) v 0 ≡ getD ds v 0
-number-digit b k v ds h l s m = rw (digits-number b k ds h l s) (List·getD-append ds (replicate (k - length ds) 0) 0 v m)
+-- zeros behind digits, or none there, make no difference
+pub zero-at : (n v : ℕ) → getD {A = ℕ} (replicate n 0) v 0 ≡ 0
+zero-at zero v = refl
+zero-at (suc n) zero = refl
+zero-at (suc n) (suc v) = zero-at n v
+
+pub zeros-behind : (ds : List ℕ) (n v : ℕ) → getD (ds ++ replicate n 0) v 0 ≡ getD ds v 0
+zeros-behind [] n v = zero-at n v
+zeros-behind (d ∷ ds) n zero = refl
+zeros-behind (d ∷ ds) n (suc v) = zeros-behind ds n v
+
+-- a digit of a number made of digits, zero behind them
+pub number-digit : (b k v : ℕ) (ds : List ℕ) → 0 < b → Below b ds → length ds ≤ k → getD (digits b k (number b k ds)) v 0 ≡ getD ds v 0
+number-digit b k v ds h l s = rw (digits-number b k ds h l s) (zeros-behind ds (k - length ds) v)
 
 -- what a number keeps of its k lowest places when all digits from place v on are taken as zeros
 pub number-take : (b k v n : ℕ) → 0 < b → v ≤ k → number b k (take v (digits b k n)) + n % b ^ (k - v) ≡ n % b ^ k

@@ -37,6 +37,7 @@ pub mod Test
 pub mod TestClauses
 pub mod TestSteps
 pub mod TestTrials
+pub mod Value
 pub mod Whole
 pub mod Words
 pub mod WordsCost

@@ -7,7 +7,7 @@ use Prim.Native.Nat.{ℕ, zero, suc, _+_, _*_, _≤_, _<_}
 use native.Mathlib.Omega.{arith}
 use native.Mathlib.Nat.{mul-zero, mul-suc}
 use lib.Dec.{T}
-use lib.ListN.{length, getD, length-append}
+use lib.ListN.{length, getD, set, length-append}
 use Rattle.model.specs.Lists.{Some, Mem, All, Pairs, keepIf, keep, inTurn, valuesFrom}
 use Rattle.theory.specs.Nodes.{sumOf}
 
@@ -227,3 +227,9 @@ pub all-at : {A : Type 0} (d : A) (P : A → Type 0) (xs : List A) → All P xs 
 all-at d P [] a i h = absurd (omega arith)
 all-at d P (x ∷ xs) a zero h = a .0
 all-at d P (x ∷ xs) a (suc i) h = all-at d P xs (a .1) i (omega arith)
+
+-- one is replaced by another of which it holds
+pub all-set : {A : Type 0} (P : A → Type 0) (xs : List A) (i : ℕ) (x : A) → P x → All P xs → All P (set xs i x)
+all-set P [] i x h a = tt
+all-set P (y ∷ xs) zero x h a = (h, a .1)
+all-set P (y ∷ xs) (suc i) x h a = (a .0, all-set P xs i x h (a .1))

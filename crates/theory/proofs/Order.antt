@@ -9,17 +9,19 @@ use native.Mathlib.Nat.{suc-mul, mul-le-mul-right, one-le-pow}
 use lib.Dec.{T, ltb, eqb}
 use lib.ListN.{length, getD, set, length-map, List·getD-map}
 use lib.Seq.{set-getD}
-use borrow.Author.Tests.{ltb-true, ltb-false, eqb-true, lt-ltb, eq-eqb}
+use borrow.Author.Tests.{ltb-true, eqb-true, lt-ltb, eq-eqb}
 use Rattle.model.specs.Lists.{All}
 use Rattle.model.specs.Sheet.{Plant, decisionSizes}
 use Rattle.model.specs.Assignment.{Fits, code}
-use Rattle.model.specs.Order.{cost, costThenCode, lower, cheapestOf, cheapest, orderOf, Before}
+use Rattle.model.specs.Order.{cost, costThenCode, cheapest, orderOf, Before}
 use Rattle.theory.specs.Digits.{Below, Lex}
 use Rattle.theory.specs.Plant.{Sized}
 use Rattle.theory.specs.Order.{Lawful}
+use Rattle.theory.specs.Value.{CheapestValue}
 use Rattle.theory.proofs.Lists.{all-map, all-image}
 use Rattle.theory.proofs.Digits.{lex-exactly, number-injective, number-set, trichotomy}
 use Rattle.theory.proofs.Agreement.{fits-length, fits-at}
+use Rattle.theory.proofs.Value.{cheapest-best, cheapest-values}
 
 -- ---- the code
 
@@ -97,45 +99,6 @@ total rows f g = go (trichotomy (cost rows f) (cost rows g)) (trichotomy (code f
     go (inr (inl e)) (inr (inl d)) = inr (inl d)
     go (inr (inl e)) (inr (inr l)) = inr (inr (inr (sym e, l)))
 
--- ---- the cheapest value
-
--- the new one of two values or the old one is at most n, if both are
-lower-le : (b : Bool) (n old : ℕ) → old ≤ n → lower b n old ≤ n
-lower-le true n old h = omega arith
-lower-le false n old h = h
-
--- the cheapest of the first n values is one of them, or 0 where there are none
-pub cheapest-low : (row : List ℕ) (n : ℕ) → cheapestOf row n ≤ n - 1
-cheapest-low row zero = omega arith
-cheapest-low row (suc n) = omega (arith, lower-le (ltb (getD row n 0) (getD row (cheapestOf row n) 0)) n (cheapestOf row n) (omega (arith, cheapest-low row n)))
-
--- none of the first n values costs less, and each that is lower costs more
-cheapest-of : (row : List ℕ) (n x : ℕ) → x < n
-    → (getD row (cheapestOf row n) 0 ≤ getD row x 0) × (x < cheapestOf row n → getD row (cheapestOf row n) 0 < getD row x 0)
-cheapest-of row zero x h = absurd (omega arith)
-cheapest-of row (suc n) x h = go (ltb (getD row n 0) (getD row old 0)) refl (trichotomy x n) (cheapest-of row n x)
-  where
-    old : ℕ
-    old = cheapestOf row n
-
-    Least : ℕ → Type 0
-    Least q = (getD row q 0 ≤ getD row x 0) × (x < q → getD row q 0 < getD row x 0)
-
-    go : (b : Bool) → ltb (getD row n 0) (getD row old 0) ≡ b → (x < n) ⊎ ((x ≡ n) ⊎ (n < x)) → (x < n → Least old) → Least (lower b n old)
-    go b e (inr (inr l)) r = absurd (omega arith)
-    go true e (inl l) r = (omega (arith, ltb-true (getD row n 0) (getD row old 0) e, r l .0), λ m. omega (arith, ltb-true (getD row n 0) (getD row old 0) e, r l .0))
-    go true e (inr (inl d)) r = (rw d (omega arith), λ m. absurd (omega arith))
-    go false e (inl l) r = r l
-    go false e (inr (inl d)) r = (rw d (ltb-false (getD row n 0) (getD row old 0) e), λ m. absurd (omega (arith, cheapest-low row n)))
-
--- no value of a row costs less than its cheapest, and each that is lower costs more: of several it is the lowest
-pub cheapest-least : (row : List ℕ) (x : ℕ) → x < length row → (getD row (cheapest row) 0 ≤ getD row x 0) × (x < cheapest row → getD row (cheapest row) 0 < getD row x 0)
-cheapest-least row = cheapest-of row (length row)
-
--- the cheapest value of a row that is not empty is one of its values
-pub cheapest-small : (row : List ℕ) → 0 < length row → cheapest row < length row
-cheapest-small row h = omega (arith, cheapest-low row (length row))
-
 -- ---- one variable at its cheapest value
 
 -- a variable's value is changed: the cost changes by the difference in its row
@@ -149,7 +112,7 @@ cost-set (row ∷ rows) (y ∷ f) (suc v) x e l = omega (arith, cost-set rows f 
 -- the cheapest values are within the domains
 cheapest-fits : (rows : List (List ℕ)) → All (λ row. 0 < length row) rows → Fits (map length rows) (map cheapest rows)
 cheapest-fits [] z = tt
-cheapest-fits (row ∷ rows) z = (cheapest-small row (z .0), cheapest-fits rows (z .1))
+cheapest-fits (row ∷ rows) z = (cheapest-best row (z .0) .within, cheapest-fits rows (z .1))
 
 -- a lower value of a variable makes the code lower
 lower-code : (f : List ℕ) (v q : ℕ) → length f ≤ 16 → v < length f → q < getD f v 0 → code (set f v q) < code f
@@ -158,26 +121,26 @@ lower-code f v q s l h =
     omega (arith, number-set 16 16 v (15 - v) q f (omega arith) l, mul-le-mul-right w h, suc-mul q w, one-le-pow (15 - v) 16 (omega arith))
 
 -- to give a variable its cheapest value betters the whole, or changes nothing
-betters : (rows : List (List ℕ)) (f : List ℕ) (v q : ℕ) → length rows ≤ 16 → Fits (map length rows) f → v < length rows → q ≡ cheapest (getD rows v [])
+betters : (rows : List (List ℕ)) (f : List ℕ) (v q : ℕ) → length rows ≤ 16 → Fits (map length rows) f → v < length rows → CheapestValue (getD rows v []) q
     → (set f v q ≡ f) ⊎ Sooner rows (set f v q) f
-betters rows f v q s h l e = go (trichotomy q (getD f v 0))
+betters rows f v q s h l best = go (trichotomy q (getD f v 0))
   where
-    row : List ℕ
-    row = getD rows v []
-
     long : length f ≡ length rows
     long = fits-length (map length rows) f h ∙ length-map rows length
 
-    least : (getD row q 0 ≤ getD row (getD f v 0) 0) × (getD f v 0 < q → getD row q 0 < getD row (getD f v 0) 0)
-    least = rw e (cheapest-least row (getD f v 0) (rw (List·getD-map length rows v []) at (fits-at (map length rows) f v h (rw (length-map rows length) l))))
+    within : getD f v 0 < length (getD rows v [])
+    within = rw (List·getD-map length rows v []) at (fits-at (map length rows) f v h (rw (length-map rows length) l))
 
     go : (q < getD f v 0) ⊎ ((q ≡ getD f v 0) ⊎ (getD f v 0 < q)) → (set f v q ≡ f) ⊎ Sooner rows (set f v q) f
     go (inl m) = inr (elim (trichotomy (cost rows (set f v q)) (cost rows f)) [
       | inl c ↦ inl c
-      | inr c ↦ elim c [ inl d ↦ inr (d, lower-code f v q (omega (arith, long)) (omega (arith, long)) m) | inr d ↦ absurd (omega (arith, cost-set rows f v q long l, least .0)) ]
+      | inr c ↦ elim c [
+        | inl d ↦ inr (d, lower-code f v q (omega (arith, long)) (omega (arith, long)) m)
+        | inr d ↦ absurd (best .none-better (getD f v 0) within (omega (arith, cost-set rows f v q long l)))
+      ]
     ])
     go (inr (inl d)) = inl (rw d (set-getD f v 0))
-    go (inr (inr m)) = inr (inl (omega (arith, cost-set rows f v q long l, least .1 m)))
+    go (inr (inr m)) = inr (inl (omega (arith, cost-set rows f v q long l, best .lower-worse (getD f v 0) m)))
 
 -- ---- the order of a plant
 
@@ -192,7 +155,7 @@ cost-lawful p short sized = record {
     | inr t ↦ elim t [ inl e ↦ inr (inl (code-injective ss f g few small h k e)) | inr u ↦ inr (inr (before-sooner p g f .1 u)) ]
   ];
   preferred = cheapest-fits rows (all-map (λ row z. z .0) rows sized);
-  betters = λ f h v l. elim (betters rows f v _ short h (rw (length-map rows length) at l) (List·getD-map cheapest rows v [])) [ inl e ↦ inl e | inr t ↦ inr (before-sooner p _ f .1 t) ];
+  betters = λ f h v l. elim (betters rows f v _ short h (rw (length-map rows length) at l) (cheapest-values rows (all-map (λ row z. z .0) rows sized) v (rw (length-map rows length) at l))) [ inl e ↦ inl e | inr t ↦ inr (before-sooner p _ f .1 t) ];
 }
   where
     rows : List (List ℕ)

@@ -1,10 +1,10 @@
 -- What the tables of a plant say of it. Assumes nothing.
-use mathlib.Core.Path.{_≡_, sym, ap, _∙_}
+use mathlib.Core.Path.{_≡_, refl, sym, ap, _∙_}
 use mathlib.Core.List.{List, [], _∷_, _++_}
-use Prim.Native.Nat.{ℕ, _+_, _≤_}
+use Prim.Native.Nat.{ℕ, zero, suc, _+_, _*_, _≤_, _<_}
 use native.Mathlib.Omega.{arith}
-use lib.ListN.{length, take, drop, length-map, take-append-drop}
-use lib.Seq.{length-take-le, take-take, take-add, drop-at}
+use lib.ListN.{length, getD, take, drop, length-map, take-append-drop}
+use lib.Seq.{length-take-le, take-take, take-add, drop-at, drop-drop}
 use Rattle.model.specs.Lists.{All}
 use Rattle.model.specs.Sheet.{Plant, edition1, decisionSizes, sizes}
 use Rattle.theory.specs.Plant.{Sized}
@@ -19,6 +19,21 @@ plant-from d s c sizes costs counts lits h =
     let a : take d (take (d + s) sizes) ≡ take d sizes = take-take d (d + s) sizes (omega arith) in
     let b : drop d (take (d + s) sizes) ≡ take s (drop d sizes) = rw (take-add d s sizes) (drop-at (take d sizes) (take s (drop d sizes)) d (length-take-le d sizes (omega arith))) in
     rw (a, b)
+
+-- a row of the table at its place
+pub rows-at : (domains costs : List ℕ) (v : ℕ) → v < length domains → getD (rows domains costs) v [] ≡ take (getD domains v 0) (take 16 (drop (16 * v) costs))
+unfolding rows
+rows-at [] costs v l = absurd (omega arith)
+rows-at (n ∷ domains) costs zero l = refl
+rows-at (n ∷ domains) costs (suc v) l =
+    let e : 16 + 16 * v ≡ 16 * suc v = omega arith in
+    rw (drop-drop (16 * v) 16 costs, e) at (rows-at domains (drop 16 costs) v (omega arith))
+
+-- a table has as many rows as there are domains
+pub rows-length : (domains costs : List ℕ) → length (rows domains costs) ≡ length domains
+unfolding rows
+rows-length [] costs = refl
+rows-length (n ∷ domains) costs = rw (rows-length domains (drop 16 costs))
 
 -- a table has the rows that are read from it
 has-rows : (domains costs : List ℕ) → HasRows (rows domains costs) costs

@@ -11,10 +11,10 @@ use lib.Dec.{eqb}
 use lib.ListN.{length, getD, set, drop, replicate, length-map, length-set, List·getD-map, List·getD-append}
 use lib.Pow.{pow-pos, pow-add, split, shl-exact}
 use borrow.Author.Tests.{ne-eqb}
-use Rattle.model.specs.Lists.{All}
 use Rattle.model.specs.Digits.{digits}
 use Rattle.model.specs.Assignment.{Assignment, Under, bit, nibble, maskOf, valuesOf, allZero}
 use Rattle.theory.specs.Words.{Words}
+use Rattle.theory.proofs.Lists.{all-set}
 use Rattle.theory.proofs.Digits.{digit-at, digits-below, below-at, zero-from, number-set}
 use Rattle.theory.proofs.WordsDigits.{pow-pow}
 use Rattle.theory.proofs.Words.{mask-digits, values-digits}
@@ -110,12 +110,6 @@ values-set : (a : Assignment) (v j : ℕ) (o : Option ℕ) → 15 ≡ v + j → 
 values-set a v j o e h = rw (map-set nibble a v o, ← List·getD-map nibble a v none)
     (number-set 16 16 v j (nibble o) (map nibble a) (omega arith) (rw (length-map a nibble) h))
 
--- a value below 16 leaves all values below 16
-small-set : (a : Assignment) (v : ℕ) (o : Option ℕ) → Under 16 o → All (Under 16) a → All (Under 16) (set a v o)
-small-set [] v o h s = tt
-small-set (p ∷ a) zero o h s = (h, s .1)
-small-set (p ∷ a) (suc v) o h s = (s .0, small-set a v o h (s .1))
-
 module _ (a : Assignment) (mask values : ℕ) (w : Words a mask values) (v : ℕ) (h : v < length a) where
   -- a variable's bit
   bit-held : getD (digits 2 64 mask) v 0 ≡ bit (getD a v none)
@@ -138,7 +132,7 @@ module _ (a : Assignment) (mask values : ℕ) (w : Words a mask values) (v : ℕ
       let n = values-set a v (15 - v) (some x) (omega arith) (omega arith) in
       record {
         short = omega (arith, length-set a v (some x));
-        small = small-set a v (some x) k (w .small);
+        small = all-set (Under 16) a v (some x) k (w .small);
         mask-is = rw (
           shl-exact {a = 1} 1 (63 - v) 64 (omega arith) (omega arith),
           field-set mask 1 (63 - v) 1 (omega arith) (sym (digit-at 2 64 v (63 - v) mask (omega arith)) ∙ bit-held ∙ ap bit free),
@@ -165,7 +159,7 @@ module _ (a : Assignment) (mask values : ℕ) (w : Words a mask values) (v : ℕ
       let cn = field-clear values 4 (60 - 4 * v) q (rw (nibble-place v (omega arith)) (sym (digit-at 16 16 v (15 - v) values (omega arith)))) in
       record {
         short = omega (arith, length-set a v none);
-        small = small-set a v none tt (w .small);
+        small = all-set (Under 16) a v none tt (w .small);
         mask-is = rw (shl-exact {a = p} 1 (63 - v) 64 (bit-below mask v) (omega arith)) (omega (arith, w .mask-is));
         values-is = rw (shl-exact {a = q} 4 (60 - 4 * v) 64 (nibble-below values v) (omega arith)) (omega (arith, w .values-is));
       }

@@ -21,22 +21,11 @@ use Rattle.theory.specs.Digits.{Below}
 use Rattle.theory.specs.Longest.{headBits, decisionBits, stateBits, clauseBits, longestSheet}
 use Rattle.theory.specs.Plant.{Sized, Present, Accepted}
 use Rattle.theory.specs.Written.{firstLiteral, fullPlant, largestPlant}
-use Rattle.theory.proofs.Digits.{digits-length, digits-below, digits-number, number-digits}
+use Rattle.theory.proofs.Digits.{digits-length, digits-below, digits-number, number-digits, zeros-behind}
 use Rattle.theory.proofs.Fields.{below-drop}
 use Rattle.theory.proofs.Lists.{all-map, all-join, all-zip, all-image, all-at, in-turn-length}
 
 -- ---- bytes and their bits
-
--- zeros behind digits, or none there, make no difference
-zero-at : (n v : ℕ) → getD {A = ℕ} (replicate n 0) v 0 ≡ 0
-zero-at zero v = refl
-zero-at (suc n) zero = refl
-zero-at (suc n) (suc v) = zero-at n v
-
-pub zeros-behind : (ds : List ℕ) (n v : ℕ) → getD (ds ++ replicate n 0) v 0 ≡ getD ds v 0
-zeros-behind [] n v = zero-at n v
-zeros-behind (d ∷ ds) n zero = refl
-zeros-behind (d ∷ ds) n (suc v) = zeros-behind ds n v
 
 pub below-take : (b n : ℕ) (ds : List ℕ) → Below b ds → Below b (take n ds)
 below-take b zero ds h = tt

@@ -13,6 +13,7 @@ pub mod Run
 pub mod Search
 pub mod Tables
 pub mod TwoRuns
+pub mod Value
 pub mod Words
 pub mod WriteRead
 pub mod Written

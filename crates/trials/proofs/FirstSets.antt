@@ -13,24 +13,24 @@ use Rattle.model.specs.Sheet.{Literal}
 use Rattle.model.specs.Lists.{All}
 use Rattle.model.specs.Assignment.{isSome, nibble}
 use Rattle.theory.specs.Search.{satisfiedAt, nth, due}
+use Rattle.theory.proofs.Digits.{zero-at}
 use Rattle.theory.proofs.Search.{waits-step, waits-end, satisfied-step, satisfied-end, satisfied-all}
 use Rattle.clauses.specs.Bytes.{given}
 use Rattle.clauses.specs.Numbers.{variables, values, unassigned, mostClauses}
 use Rattle.clauses.specs.Sets.{inSet, inPair, SetIs}
 use Rattle.clauses.proofs.Bits.{bit-zero}
 use Rattle.clauses.proofs.Bytes.{given-none, given-some, given-at}
-use Rattle.clauses.proofs.Callers.{zeros}
 use Rattle.trials.specs.Searches.{Clauses, SetsFrom, Started}
 use Rattle.trials.proofs.Bytes.{is-given}
 
 -- a set of nothing
 pub empty : (c : ℕ) → inSet (replicate 8 0) 0 c ≡ false
 unfolding inSet
-empty c = rw (zeros 8 (0 * 8 + c / 64)) (bit-zero (c % 64))
+empty c = rw (zero-at 8 (0 * 8 + c / 64)) (bit-zero (c % 64))
 
 pub none-in-pair : (c : ℕ) → inPair 0 0 c ≡ false
 unfolding inPair
-none-in-pair c = rw (zeros 2 (0 + c / 64)) (bit-zero (c % 64))
+none-in-pair c = rw (zero-at 2 (0 + c / 64)) (bit-zero (c % 64))
 
 -- each clause's variables are below n, also past the end
 below-nth : (n : ℕ) (cs : List (List Literal)) → All (All (λ l. l .variable < n)) cs → (c : ℕ) → All (λ l. l .variable < n) (nth cs c)

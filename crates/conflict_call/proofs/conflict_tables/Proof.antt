@@ -2,8 +2,9 @@
 use mathlib.Core.Path.{sym, _∙_}
 use native.Mathlib.Omega.{arith}
 use borrow.Author.Needs.{needs}
+use Rattle.theory.proofs.Digits.{zero-at}
 use Rattle.clauses.specs.Numbers.{satWords, usesWords}
-use Rattle.clauses.proofs.Callers.{tables-more, zeros}
+use Rattle.clauses.proofs.Callers.{tables-more}
 use Rattle.conflict_call.proofs.Asking.{plant-refuses, plant-answers}
 use Rattle.conflict.proofs.Given.{plan-long}
 use Rattle.conflict_call.proofs.conflict_tables.Statement.{statement}
@@ -24,7 +25,7 @@ slice-aggregate-prepare-2 c = search needs
 prepare-requires : tie.Need-prepare-requires
 prepare-requires c κs =
     let s = c .before .before .before .before .before .before .before in
-    (tables-more _ 48 _ _ (s .pre .few) (s .pre .tables), omega arith, omega arith, zeros satWords, zeros usesWords)
+    (tables-more _ 48 _ _ (s .pre .few) (s .pre .tables), omega arith, omega arith, zero-at satWords, zero-at usesWords)
 
 slice-aggregate-conflict-of : tie.Need-slice-aggregate-conflict-of
 slice-aggregate-conflict-of c = search needs

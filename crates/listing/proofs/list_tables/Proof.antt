@@ -1,8 +1,9 @@
 -- `list_tables` meets its contract: the sets and the preferred values are made once, steps 1 to 7 run, and what they leave is answered. Assumes nothing.
 use native.Mathlib.Omega.{arith}
+use Rattle.theory.proofs.Digits.{zero-at}
 use Rattle.theory.proofs.Tables.{tabled-decisions, tabled-few, tabled-sized}
 use Rattle.clauses.specs.Numbers.{satWords, usesWords}
-use Rattle.clauses.proofs.Callers.{tables-more, zeros}
+use Rattle.clauses.proofs.Callers.{tables-more}
 use Rattle.conflict.proofs.Given.{tabled-limits, plan-long}
 use Rattle.listing.proofs.Answering.{lists-of, finished-room, finished-called}
 use borrow.Author.Needs.{needs}
@@ -18,7 +19,7 @@ slice-aggregate-prepare-2 c = search needs
 prepare-requires : tie.Need-prepare-requires
 prepare-requires c κs =
     let l = tabled-limits (c .before .before .before .before .before .before .before .before .before .before .pre .0 .1) in
-    (tables-more _ 48 _ _ (l .few) (l .tables), omega arith, omega arith, zeros satWords, zeros usesWords)
+    (tables-more _ 48 _ _ (l .few) (l .tables), omega arith, omega arith, zero-at satWords, zero-at usesWords)
 
 preferred-requires : tie.Need-preferred-requires
 preferred-requires c κs =

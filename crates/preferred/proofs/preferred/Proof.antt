@@ -1,25 +1,25 @@
--- `preferred::preferred` meets its contract. The loop's invariant: the word so far, with the code of the variables left, is the code. Assumes nothing.
-use Prim.Native.Nat.{_+_, _-_, _≤_}
-use mathlib.Core.Path.{_≡_, sym, ap, _∙_}
-use mathlib.Core.List.{map}
+-- `preferred::preferred` meets its contract. The loop's invariant: the word so far hands in the cheapest values of the first v variables. Assumes nothing.
+use Prim.Native.Nat.{_-_, _≤_, _<_}
+use mathlib.Core.Path.{ap}
 use native.Mathlib.Omega.{arith}
-use native.Mathlib.Nat.{zero-add}
+use lib.ListN.{take}
 use borrow.Author.Needs.{needs}
 use Rattle.model.specs.Sheet.{Plant}
-use Rattle.model.specs.Assignment.{code}
-use Rattle.model.specs.Order.{cheapest, orderOf}
-use Rattle.preferred.proofs.Laws.{codeFrom, size-at, code-step, code-end, code-fits}
+use Rattle.theory.specs.Tables.{rows}
+use Rattle.theory.specs.Value.{BestValues}
+use Rattle.theory.proofs.Value.{no-values}
+use Rattle.preferred.proofs.Laws.{size-at, all-handed, sum-fits, one-more}
 use Rattle.preferred.proofs.preferred.Statement.{statement}
 use Rattle.preferred.proofs.preferred.Tie as tie
 
 abbrev Inv-loop : tie.InvT-loop
-Inv-loop sizes costs d word₀ v₀ word v = (v ≤ d) × (word + codeFrom sizes costs d v ≡ codeFrom sizes costs d 0)
+Inv-loop sizes costs d word₀ v₀ word v = (v ≤ d) × BestValues _<_ (take v (rows (take d sizes) costs)) word
 
 abbrev μ-loop : tie.MeasureT-loop
 μ-loop sizes costs d word₀ v₀ word v = d - v
 
 loop-holds : tie.Need-loop-holds Inv-loop μ-loop
-loop-holds c = (omega arith, zero-add _)
+loop-holds c = (omega arith, no-values)
 
 mul-row : tie.Need-mul-row Inv-loop μ-loop
 mul-row c = omega arith
@@ -62,9 +62,7 @@ add-word : tie.Need-add-word Inv-loop μ-loop
 add-word c =
     let h = c .before .before .before .before .before in
     let s = h .before .before .before in
-    let x = c .cheapest in
-    let step = code-step (s .args .sizes .now) (s .args .costs .now) (s .args .d) (s .pre) (h .loop .v) (c .before .wide .result) (x .result) (c .before .before .before .before .loop-test .taken) (c .before .wide .ensures) (x .ensures .0) (x .ensures .1) in
-    omega (arith, code-fits (s .args .sizes .now) (s .args .costs .now) (s .args .d) (s .pre))
+    omega (arith, sum-fits (s .args .sizes .now) (s .args .costs .now) (s .args .d) (s .pre) (h .loop .v) (c .before .wide .result) (c .cheapest .result) (h .loop .word) (c .before .before .before .before .loop-test .taken) (c .before .wide .ensures) (c .cheapest .ensures) (h .loop .inv .1))
 
 add-v : tie.Need-add-v Inv-loop μ-loop
 add-v c = omega arith
@@ -75,18 +73,15 @@ loop-less c = omega arith
 loop-again : tie.Need-loop-again Inv-loop μ-loop
 loop-again c =
     let h = c .before .before .before .before .before in
-    let s = h .before .before .before in
-    let x = c .cheapest in
-    let step = code-step (s .args .sizes .now) (s .args .costs .now) (s .args .d) (s .pre) (h .loop .v) (c .before .wide .result) (x .result) (c .before .before .before .before .loop-test .taken) (c .before .wide .ensures) (x .ensures .0) (x .ensures .1) in
-    omega arith
+    let s = h .before .before .before in (
+      omega arith,
+      one-more (s .args .sizes .now) (s .args .costs .now) (s .args .d) (s .pre) (h .loop .v) (c .before .wide .result) (c .cheapest .result) (h .loop .word) (c .before .before .before .before .loop-test .taken) (c .before .wide .ensures) (c .cheapest .ensures) (h .loop .inv .1),
+    )
 
 returns : tie.Need-returns Inv-loop μ-loop
-unfolding orderOf
 returns c p counts lits t =
     let s = c .before .before .before .before in
-    let e = code-end (s .args .sizes .now) (s .args .costs .now) (s .args .d) (s .pre) (c .before .loop .v) (omega arith) in
-    let w : c .before .loop .word ≡ codeFrom (s .args .sizes .now) (s .args .costs .now) (s .args .d) 0 = omega arith in
-    w ∙ sym (ap (λ (q : Plant). code (map cheapest (q .costs))) (t .plant))
+    rw (ap (λ (q : Plant). q .costs) (t .plant)) (all-handed (s .args .sizes .now) (s .args .costs .now) (s .args .d) (s .pre) (c .before .loop .v) (c .before .loop .word) (omega arith) (c .before .loop .inv .1))
 
 pub preferred-spec : {M : Type 1} → statement M
 preferred-spec =

@@ -1,0 +1,239 @@
+-- The best value of a variable by any comparison: it is the only one, it is found value by value, and a word takes it in digit by digit. With costs it is the model's cheapest value. Assumes nothing.
+use mathlib.Core.Path.{_≡_, refl, sym, _∙_}
+use mathlib.Core.Logic.{inl, inr, _↔_}
+use mathlib.Core.Bool.{Bool, true, false}
+use mathlib.Core.List.{List, [], _∷_, map}
+use Prim.Native.Nat.{ℕ, zero, suc, _+_, _-_, _*_, _^_, _≤_, _<_}
+use native.Mathlib.Omega.{arith}
+use native.Mathlib.Nat.{zero-mul}
+use native.Mathlib.Numerals.{add-one}
+use lib.Dec.{ltb}
+use lib.ListN.{length, getD, set, take, length-map, length-set, List·getD-map, List·getD-eq-default}
+use lib.Seq.{getD-take, getD-set-same, getD-set-other, length-take-le, take-length}
+use borrow.Author.Tests.{ltb-true, ltb-false}
+use Rattle.model.specs.Lists.{All}
+use Rattle.model.specs.Digits.{digits, number}
+use Rattle.model.specs.Sheet.{Plant, edition1, readSheet, got}
+use Rattle.model.specs.Assignment.{code}
+use Rattle.model.specs.Order.{lower, cheapestOf, cheapest, orderOf}
+use Rattle.theory.specs.Digits.{Below}
+use Rattle.theory.specs.Plant.{Accepted}
+use Rattle.theory.specs.Value.{Compares, BestValue, CheapestValue, BestValues, CheapestValues}
+use Rattle.theory.proofs.Lists.{all-at, all-map, all-image, all-set}
+use Rattle.theory.proofs.Digits.{trichotomy, digits-length, digits-below, digits-zero, digits-made, number-below, number-digits, number-digit, number-same, number-set, zero-at}
+use Rattle.theory.proofs.Sheet.{accepted}
+
+-- ---- one row
+
+-- a row has one best value
+pub best-unique : {Better : ℕ → ℕ → Type 0} {row : List ℕ} {q r : ℕ} → BestValue Better row q → BestValue Better row r → q ≡ r
+best-unique {q = q} {r = r} a b = elim (trichotomy q r) [
+  | inl l ↦ absurd (a .none-better r (b .within) (b .lower-worse q l))
+  | inr h ↦ elim h [ inl e ↦ e | inr l ↦ absurd (b .none-better q (a .within) (a .lower-worse r l)) ]
+]
+
+-- less is a comparison: the best is the cheapest
+pub less-compares : Compares _<_
+less-compares = record {
+  asymmetric = λ a b h k. omega arith;
+  cotransitive = λ a b c h. elim (trichotomy a b) [ inl l ↦ inl l | inr m ↦ inr (elim m [ inl e ↦ omega arith | inr l ↦ omega arith ]) ];
+}
+
+-- and so is a comparison turned round: the best by it is the greatest
+pub turned-compares : {Better : ℕ → ℕ → Type 0} → Compares Better → Compares (λ a b. Better b a)
+turned-compares c = record {
+  asymmetric = λ a b h k. c .asymmetric b a h k;
+  cotransitive = λ x y z h. elim (c .cotransitive z y x h) [ inl l ↦ inr l | inr l ↦ inl l ];
+}
+
+-- no figure is better than itself
+irreflexive : {Better : ℕ → ℕ → Type 0} → Compares Better → (a : ℕ) → Better a a → ⊥
+irreflexive c a b = c .asymmetric a a b b
+
+-- of a row's first value it is the best
+pub first-best : {Better : ℕ → ℕ → Type 0} → Compares Better → (row : List ℕ) → 0 < length row → BestValue Better (take 1 row) 0
+first-best c row h =
+    let l : length (take 1 row) ≡ 1 = length-take-le 1 row (omega arith) in
+    record {
+      within = omega arith;
+      none-better = λ x k b. let e : x ≡ 0 = omega arith in irreflexive c _ (rw e at b);
+      lower-worse = λ x k. absurd (omega arith);
+    }
+
+module _ {Better : ℕ → ℕ → Type 0} (c : Compares Better) (row : List ℕ) (n q : ℕ) (l : n < length row) (old : BestValue Better (take n row) q) where
+  -- the value is one of the first n
+  q-below : q < n
+  q-below = omega (arith, old .within, length-take-le n row (omega arith))
+
+  -- none of the first n is better
+  old-best : (x : ℕ) → x < n → Better (getD row x 0) (getD row q 0) → ⊥
+  old-best x h b = old .none-better x (rw (length-take-le n row (omega arith)) h) (rw (getD-take n row x 0 h, getD-take n row q 0 q-below) b)
+
+  long : length (take (n + 1) row) ≡ n + 1
+  long = length-take-le (n + 1) row (omega arith)
+
+  -- the next value is better: it is the best of one value more
+  pub better-next : Better (getD row n 0) (getD row q 0) → BestValue Better (take (n + 1) row) n
+  better-next b = record {
+    within = omega (arith, long);
+    none-better = λ x h k. go x (omega (arith, long)) (rw (getD-take (n + 1) row x 0 (omega (arith, long)), getD-take (n + 1) row n 0 (omega arith)) at k);
+    lower-worse = λ x h. rw (getD-take (n + 1) row x 0 (omega arith), getD-take (n + 1) row n 0 (omega arith)) (worse x h);
+  }
+    where
+      worse : (x : ℕ) → x < n → Better (getD row n 0) (getD row x 0)
+      worse x h = elim (c .cotransitive _ (getD row x 0) _ b) [ inl k ↦ k | inr k ↦ absurd (old-best x h k) ]
+
+      go : (x : ℕ) → x < n + 1 → Better (getD row x 0) (getD row n 0) → ⊥
+      go x h k = elim (trichotomy x n) [
+        | inl m ↦ c .asymmetric _ _ k (worse x m)
+        | inr m ↦ elim m [ inl e ↦ irreflexive c _ (rw e at k) | inr m ↦ absurd (omega arith) ]
+      ]
+
+  -- it is not: the best stays
+  pub no-better-next : (Better (getD row n 0) (getD row q 0) → ⊥) → BestValue Better (take (n + 1) row) q
+  no-better-next b = record {
+    within = omega (arith, long, q-below);
+    none-better = λ x h k. go x (omega (arith, long)) (rw (getD-take (n + 1) row x 0 (omega (arith, long)), getD-take (n + 1) row q 0 (omega (arith, q-below))) at k);
+    lower-worse = λ x h. rw (getD-take (n + 1) row x 0 (omega (arith, q-below)), getD-take (n + 1) row q 0 (omega (arith, q-below)))
+        (rw (getD-take n row x 0 (omega (arith, q-below)), getD-take n row q 0 q-below) at (old .lower-worse x h));
+  }
+    where
+      go : (x : ℕ) → x < n + 1 → Better (getD row x 0) (getD row q 0) → ⊥
+      go x h k = elim (trichotomy x n) [
+        | inl m ↦ old-best x m k
+        | inr m ↦ elim m [ inl e ↦ b (rw e at k) | inr m ↦ absurd (omega arith) ]
+      ]
+
+-- ---- the model's cheapest value
+
+-- the cheapest of a row's first values
+cheapest-of-first : (row : List ℕ) (n : ℕ) → n < length row → CheapestValue (take (suc n) row) (cheapestOf row (suc n))
+cheapest-of-first row zero l = go (ltb (getD row 0 0) (getD row 0 0))
+  where
+    go : (b : Bool) → CheapestValue (take 1 row) (lower b 0 0)
+    go true = first-best less-compares row l
+    go false = first-best less-compares row l
+cheapest-of-first row (suc n) l = rw (add-one (suc n)) at (go (ltb (getD row (suc n) 0) (getD row old 0)) refl (cheapest-of-first row n (omega arith)))
+  where
+    old : ℕ
+    old = cheapestOf row (suc n)
+
+    go : (b : Bool) → ltb (getD row (suc n) 0) (getD row old 0) ≡ b → CheapestValue (take (suc n) row) old → CheapestValue (take (suc n + 1) row) (lower b (suc n) old)
+    go true e h = better-next less-compares row (suc n) old l h (ltb-true (getD row (suc n) 0) (getD row old 0) e)
+    go false e h = no-better-next less-compares row (suc n) old l h (λ k. omega (arith, ltb-false (getD row (suc n) 0) (getD row old 0) e))
+
+-- it is in the domain, no value costs less, and every lower value costs more
+pub cheapest-best : (row : List ℕ) → 0 < length row → CheapestValue row (cheapest row)
+cheapest-best [] h = absurd (omega arith)
+cheapest-best (c ∷ row) h = rw (take-length row) at (cheapest-of-first (c ∷ row) (length row) (omega arith))
+
+-- the cheapest values of rows, row by row
+pub cheapest-values : (rows : List (List ℕ)) → All (λ row. 0 < length row) rows → (v : ℕ) → v < length rows → CheapestValue (getD rows v []) (getD (map cheapest rows) v 0)
+cheapest-values rows z v h = rw (List·getD-map cheapest rows v []) (cheapest-best (getD rows v []) (all-at [] _ rows z v h))
+
+-- ---- the word
+
+-- no variable: zero
+pub no-values : {Better : ℕ → ℕ → Type 0} → BestValues Better [] 0
+no-values = record { one-word = omega arith; digit-best = λ v h. absurd (omega arith); rest-zero = λ v h. rw (digits-zero 16 16) (zero-at 16 v) }
+
+-- one variable more: its best value at the next digit
+module _ {Better : ℕ → ℕ → Type 0} (rows : List (List ℕ)) (v x word : ℕ) (l : v < length rows) (few : v < 16) (small : x < 16)
+    (old : BestValues Better (take v rows) word) (best : BestValue Better (getD rows v []) x) where
+  before : length (take v rows) ≡ v
+  before = length-take-le v rows (omega arith)
+
+  after : length (take (v + 1) rows) ≡ v + 1
+  after = length-take-le (v + 1) rows (omega arith)
+
+  abbrev ds : List ℕ
+  ds = digits 16 16 word
+
+  -- the sum is the number with this digit in place of a zero
+  sum-is : number 16 16 (set ds v x) ≡ word + x * 16 ^ (15 - v)
+  sum-is =
+      let free : getD ds v 0 ≡ 0 = old .rest-zero v (omega (arith, before)) in
+      let put = number-set 16 16 v (15 - v) x ds (omega arith) (rw (digits-length 16 16 word) few) in
+      omega (arith, rw (free, zero-mul (16 ^ (15 - v))) at put, number-digits 16 16 word (omega arith) (old .one-word))
+
+  digits-small : Below 16 (set ds v x)
+  digits-small = all-set (λ d. d < 16) ds v x small (digits-below 16 16 word (omega arith))
+
+  digits-next : digits 16 16 (word + x * 16 ^ (15 - v)) ≡ set ds v x
+  digits-next = rw sum-is at (digits-made 16 16 (set ds v x) (omega arith) digits-small (length-set ds v x ∙ digits-length 16 16 word))
+
+  pub next-fits : word + x * 16 ^ (15 - v) < 2 ^ 64
+  next-fits = rw sum-is at (number-below 16 16 (set ds v x) (omega arith) digits-small)
+
+  pub next-value : BestValues Better (take (v + 1) rows) (word + x * 16 ^ (15 - v))
+  next-value = record {
+    one-word = next-fits;
+    digit-best = λ u k. rw (digits-next, getD-take (v + 1) rows u [] (omega (arith, after))) (go u (omega (arith, after)));
+    rest-zero = λ u k. rw (digits-next, getD-set-other ds v u x 0 (λ e. absurd (omega (arith, after)))) (old .rest-zero u (omega (arith, before, after)));
+  }
+    where
+      go : (u : ℕ) → u < v + 1 → BestValue Better (getD rows u []) (getD (set ds v x) u 0)
+      go u k = elim (trichotomy u v) [
+        | inl m ↦ rw (getD-set-other ds v u x 0 (λ e. absurd (omega arith)), ← getD-take v rows u [] m) (old .digit-best u (rw before m))
+        | inr m ↦ elim m [ inl e ↦ rw (e, getD-set-same ds v x 0 (rw (digits-length 16 16 word) few)) best | inr m ↦ absurd (omega arith) ]
+      ]
+
+-- rows have one such word
+pub word-unique : {Better : ℕ → ℕ → Type 0} {rows : List (List ℕ)} {w u : ℕ} → BestValues Better rows w → BestValues Better rows u → w ≡ u
+word-unique {rows = rows} {w = w} {u = u} a b =
+    sym (number-digits 16 16 w (omega arith) (a .one-word)) ∙ number-same 16 16 (digits 16 16 w) (digits 16 16 u) same ∙ number-digits 16 16 u (omega arith) (b .one-word)
+  where
+    same : (v : ℕ) → getD (digits 16 16 w) v 0 ≡ getD (digits 16 16 u) v 0
+    same v = elim (trichotomy v (length rows)) [
+      | inl l ↦ best-unique (a .digit-best v l) (b .digit-best v l)
+      | inr l ↦ rest (elim l [ inl e ↦ omega arith | inr g ↦ omega arith ])
+    ]
+      where
+        rest : length rows ≤ v → getD (digits 16 16 w) v 0 ≡ getD (digits 16 16 u) v 0
+        rest h = a .rest-zero v h ∙ sym (b .rest-zero v h)
+
+-- it is the code of the best values
+pub code-hands-in : {Better : ℕ → ℕ → Type 0} (rows : List (List ℕ)) (values : List ℕ) → length values ≡ length rows → length rows ≤ 16 → Below 16 values
+    → ((v : ℕ) → v < length rows → BestValue Better (getD rows v []) (getD values v 0)) → BestValues Better rows (code values)
+code-hands-in rows values e s b best = record {
+  one-word = number-below 16 16 values (omega arith) b;
+  digit-best = λ v h. rw (number-digit 16 16 v values (omega arith) b (omega arith)) (best v h);
+  rest-zero = λ v h. rw (number-digit 16 16 v values (omega arith) b (omega arith)) (List·getD-eq-default values 0 {n = v} (omega arith));
+}
+
+-- ---- what a run is handed in
+
+-- on every accepted plant:
+module _ (p : Plant) (a : Accepted edition1 p) where
+  -- for every decision variable the order's preferred value is its cheapest value, the lowest on a tie
+  pub preferred-cheapest : (v : ℕ) → v < length (p .costs) → CheapestValue (getD (p .costs) v []) (getD (orderOf p .preferred) v 0)
+  unfolding orderOf
+  preferred-cheapest = cheapest-values (p .costs) (all-map (λ row z. z .0) (p .costs) (a .decision-sizes))
+
+  preferred-below : Below 16 (orderOf p .preferred)
+  unfolding orderOf
+  preferred-below = all-image cheapest _ (p .costs) (all-map (λ row s. omega (arith, cheapest-best row (s .0) .within, s .1)) (p .costs) (a .decision-sizes))
+
+  preferred-length : length (orderOf p .preferred) ≡ length (p .costs)
+  unfolding orderOf
+  preferred-length = length-map (p .costs) cheapest
+
+  -- the code of the preferred values, of which best states are made, hands them in
+  pub preferred-handed : CheapestValues p (code (orderOf p .preferred))
+  unfolding edition1
+  preferred-handed = code-hands-in (p .costs) (orderOf p .preferred) preferred-length (a .decisions) preferred-below preferred-cheapest
+
+  -- and nothing else does
+  pub handed-is : (word : ℕ) → CheapestValues p word → word ≡ code (orderOf p .preferred)
+  handed-is word c = word-unique c preferred-handed
+
+  -- so a digit handed in is a preferred value
+  pub digit-preferred : (word : ℕ) → CheapestValues p word → (v : ℕ) → getD (digits 16 16 word) v 0 ≡ getD (orderOf p .preferred) v 0
+  unfolding edition1
+  digit-preferred word c v = rw (handed-is word c) (number-digit 16 16 v (orderOf p .preferred) (omega arith) preferred-below (omega (arith, preferred-length, a .decisions)))
+
+-- request L3, on every accepted sheet: what is handed in is, for every decision variable, its cheapest value, the lowest on a tie, exactly where it is the code of the preferred values
+pub handed-exactly : (sheet : List ℕ) (p : Plant) (end : ℕ) → readSheet edition1 sheet ≡ got p end → (word : ℕ) → CheapestValues p word ↔ (word ≡ code (orderOf p .preferred))
+handed-exactly sheet p end h word =
+    let a = accepted sheet p end h .0 in
+    (handed-is p a word, λ e. rw e (preferred-handed p a))
