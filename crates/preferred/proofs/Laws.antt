@@ -35,7 +35,8 @@ module _ (sizes costs : List ℕ) (d : ℕ) (known : (d ≤ 16) × (d ≤ length
   pub all-handed : (v word : ℕ) → v ≡ d → BestValues _<_ (take v table) word → BestValues _<_ table word
   all-handed v word e h = rw (take-all v table (omega (arith, length-table))) at h
 
-  module _ (v size x word : ℕ) (h : v < d) (s : size ≡ getD sizes v 0) (best : CheapestValue (take size (take (length costs - 16 * v) (drop (16 * v) costs))) x) (old : BestValues _<_ (take v table) word) where
+  module _ (v size x word : ℕ) (h : v < d) (s : size ≡ getD sizes v 0)
+      (best : CheapestValue (take size (take (length costs - 16 * v) (drop (16 * v) costs))) x) (old : BestValues _<_ (take v table) word) where
     -- the variable's row stands where its costs are read
     row-is : getD table v [] ≡ take size (drop (16 * v) costs)
     row-is = rows-at (take d sizes) costs v (rw length-sizes h) ∙ rw (getD-take d sizes v 0 h, ← s) (take-take size 16 (drop (16 * v) costs) (omega (arith, size-at v h .1)))

@@ -154,8 +154,10 @@ cost-lawful p short sized = record {
     | inl t ↦ inl (before-sooner p f g .1 t)
     | inr t ↦ elim t [ inl e ↦ inr (inl (code-injective ss f g few small h k e)) | inr u ↦ inr (inr (before-sooner p g f .1 u)) ]
   ];
-  preferred = cheapest-fits rows (all-map (λ row z. z .0) rows sized);
-  betters = λ f h v l. elim (betters rows f v _ short h (rw (length-map rows length) at l) (cheapest-values rows (all-map (λ row z. z .0) rows sized) v (rw (length-map rows length) at l))) [ inl e ↦ inl e | inr t ↦ inr (before-sooner p _ f .1 t) ];
+  preferred = cheapest-fits rows filled;
+  betters = λ f h v l.
+      let k : v < length rows = rw (length-map rows length) at l in
+      elim (betters rows f v _ short h k (cheapest-values rows filled v k)) [ inl e ↦ inl e | inr t ↦ inr (before-sooner p _ f .1 t) ];
 }
   where
     rows : List (List ℕ)
@@ -166,6 +168,9 @@ cost-lawful p short sized = record {
 
     few : length ss ≤ 16
     few = rw (length-map rows length) short
+
+    filled : All (λ row. 0 < length row) rows
+    filled = all-map (λ row z. z .0) rows sized
 
     small : All (λ s. s ≤ 16) ss
     small = all-image length _ rows (all-map (λ row z. z .1) rows sized)

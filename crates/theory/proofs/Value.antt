@@ -1,4 +1,4 @@
--- The best value of a variable by any comparison: it is the only one, it is found value by value, and a word takes it in digit by digit. With costs it is the model's cheapest value. Assumes nothing.
+-- The best value of a variable by any comparison: there is one, it is found value by value, and a word has it digit by digit. By cost it is the model's cheapest value. Assumes nothing.
 use mathlib.Core.Path.{_≡_, refl, sym, _∙_}
 use mathlib.Core.Logic.{inl, inr, _↔_}
 use mathlib.Core.Bool.{Bool, true, false}
@@ -232,7 +232,7 @@ module _ (p : Plant) (a : Accepted edition1 p) where
   unfolding edition1
   digit-preferred word c v = rw (handed-is word c) (number-digit 16 16 v (orderOf p .preferred) (omega arith) preferred-below (omega (arith, preferred-length, a .decisions)))
 
--- request L3, on every accepted sheet: what is handed in is, for every decision variable, its cheapest value, the lowest on a tie, exactly where it is the code of the preferred values
+-- request L3, on every accepted sheet: a word hands in, for every decision variable, its cheapest value, the lowest on a tie, exactly if it is the code of the preferred values
 pub handed-exactly : (sheet : List ℕ) (p : Plant) (end : ℕ) → readSheet edition1 sheet ≡ got p end → (word : ℕ) → CheapestValues p word ↔ (word ≡ code (orderOf p .preferred))
 handed-exactly sheet p end h word =
     let a = accepted sheet p end h .0 in

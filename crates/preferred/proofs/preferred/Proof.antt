@@ -60,9 +60,11 @@ shl-word c = omega arith
 
 add-word : tie.Need-add-word Inv-loop μ-loop
 add-word c =
+    let size = c .before .wide in
+    let more = c .before .before .before .before .loop-test in
     let h = c .before .before .before .before .before in
     let s = h .before .before .before in
-    omega (arith, sum-fits (s .args .sizes .now) (s .args .costs .now) (s .args .d) (s .pre) (h .loop .v) (c .before .wide .result) (c .cheapest .result) (h .loop .word) (c .before .before .before .before .loop-test .taken) (c .before .wide .ensures) (c .cheapest .ensures) (h .loop .inv .1))
+    omega (arith, sum-fits (s .args .sizes .now) (s .args .costs .now) (s .args .d) (s .pre) (h .loop .v) (size .result) (c .cheapest .result) (h .loop .word) (more .taken) (size .ensures) (c .cheapest .ensures) (h .loop .inv .1))
 
 add-v : tie.Need-add-v Inv-loop μ-loop
 add-v c = omega arith
@@ -72,10 +74,12 @@ loop-less c = omega arith
 
 loop-again : tie.Need-loop-again Inv-loop μ-loop
 loop-again c =
+    let size = c .before .wide in
+    let more = c .before .before .before .before .loop-test in
     let h = c .before .before .before .before .before in
     let s = h .before .before .before in (
       omega arith,
-      one-more (s .args .sizes .now) (s .args .costs .now) (s .args .d) (s .pre) (h .loop .v) (c .before .wide .result) (c .cheapest .result) (h .loop .word) (c .before .before .before .before .loop-test .taken) (c .before .wide .ensures) (c .cheapest .ensures) (h .loop .inv .1),
+      one-more (s .args .sizes .now) (s .args .costs .now) (s .args .d) (s .pre) (h .loop .v) (size .result) (c .cheapest .result) (h .loop .word) (more .taken) (size .ensures) (c .cheapest .ensures) (h .loop .inv .1),
     )
 
 returns : tie.Need-returns Inv-loop μ-loop
