@@ -77,7 +77,9 @@ words-are {p} {n} i =
 
 -- a row of the table at its place
 row-at : (sizes costs : List ℕ) (v x : ℕ) → v < length sizes → x < getD sizes v 0 → x < 16 → getD (getD (rows sizes costs) v []) x 0 ≡ getD costs (16 * v + x) 0
-row-at sizes costs v x l h s = rw (rows-at sizes costs v l, getD-take (getD sizes v 0) (take 16 (drop (16 * v) costs)) x 0 h, getD-take 16 (drop (16 * v) costs) x 0 s) (getD-drop (16 * v) costs x 0)
+row-at sizes costs v x l h s =
+    let row = drop (16 * v) costs in
+    rw (rows-at sizes costs v l, getD-take (getD sizes v 0) (take 16 row) x 0 h, getD-take 16 row x 0 s) (getD-drop (16 * v) costs x 0)
 
 -- one value of a full assignment is set
 full-set : (f : List ℕ) (v x : ℕ) → set (full f) v (some x) ≡ full (set f v x)

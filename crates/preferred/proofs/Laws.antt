@@ -13,7 +13,7 @@ use Rattle.theory.specs.Tables.{rows}
 use Rattle.theory.specs.Value.{CheapestValue, BestValues}
 use Rattle.theory.proofs.Lists.{all-at}
 use Rattle.theory.proofs.Tables.{rows-at, rows-length}
-use Rattle.theory.proofs.Value.{next-fits, next-value}
+use Rattle.theory.proofs.Value.{next-value}
 use Rattle.theory.proofs.WordsSet.{nibble-place}
 
 module _ (sizes costs : List ℕ) (d : ℕ) (known : (d ≤ 16) × (d ≤ length sizes) × (16 * d ≤ length costs) × All Sized (take d sizes)) where
@@ -32,10 +32,10 @@ module _ (sizes costs : List ℕ) (d : ℕ) (known : (d ≤ 16) × (d ≤ length
   size-at v h = rw (getD-take d sizes v 0 h) at (all-at 0 Sized (take d sizes) (known .3) v (rw length-sizes h))
 
   -- after the last variable the word has the values of all
-  pub all-handed : (v word : ℕ) → v ≡ d → BestValues _<_ (take v table) word → BestValues _<_ table word
-  all-handed v word e h = rw (take-all v table (omega (arith, length-table))) at h
+  pub all-handed : (v : ℕ) {word : ℕ} → v ≡ d → BestValues _<_ (take v table) word → BestValues _<_ table word
+  all-handed v e h = rw (take-all v table (omega (arith, length-table))) at h
 
-  module _ (v size x word : ℕ) (h : v < d) (s : size ≡ getD sizes v 0)
+  module _ (v x : ℕ) {size word : ℕ} (h : v < d) (s : size ≡ getD sizes v 0)
       (best : CheapestValue (take size (take (length costs - 16 * v) (drop (16 * v) costs))) x) (old : BestValues _<_ (take v table) word) where
     -- the variable's row stands where its costs are read
     row-is : getD table v [] ≡ take size (drop (16 * v) costs)
@@ -55,10 +55,6 @@ module _ (sizes costs : List ℕ) (d : ℕ) (known : (d ≤ 16) × (d ≤ length
     placed : x * 2 ^ (60 - 4 * v) % 2 ^ 64 ≡ x * 16 ^ (15 - v)
     placed = rw (shl-exact {a = x} 4 (60 - 4 * v) 64 small (omega arith), nibble-place v few)
 
-    -- with the variable's value at its place the sum is a word
-    pub sum-fits : word + x * 2 ^ (60 - 4 * v) % 2 ^ 64 < 2 ^ 64
-    sum-fits = rw placed (next-fits table v x word (omega (arith, length-table)) few small old (rw row-is read))
-
-    -- that has one value more
+    -- with the variable's value at its place the word hands in one value more
     pub one-more : BestValues _<_ (take (v + 1) table) (word + x * 2 ^ (60 - 4 * v) % 2 ^ 64)
     one-more = rw placed (next-value table v x word (omega (arith, length-table)) few small old (rw row-is read))

@@ -162,12 +162,9 @@ module _ {Better : ℕ → ℕ → Type 0} (rows : List (List ℕ)) (v x word : 
   digits-next : digits 16 16 (word + x * 16 ^ (15 - v)) ≡ set ds v x
   digits-next = rw sum-is at (digits-made 16 16 (set ds v x) (omega arith) digits-small (length-set ds v x ∙ digits-length 16 16 word))
 
-  pub next-fits : word + x * 16 ^ (15 - v) < 2 ^ 64
-  next-fits = rw sum-is at (number-below 16 16 (set ds v x) (omega arith) digits-small)
-
   pub next-value : BestValues Better (take (v + 1) rows) (word + x * 16 ^ (15 - v))
   next-value = record {
-    one-word = next-fits;
+    one-word = rw sum-is at (number-below 16 16 (set ds v x) (omega arith) digits-small);
     digit-best = λ u k. rw (digits-next, getD-take (v + 1) rows u [] (omega (arith, after))) (go u (omega (arith, after)));
     rest-zero = λ u k. rw (digits-next, getD-set-other ds v u x 0 (λ e. absurd (omega (arith, after)))) (old .rest-zero u (omega (arith, before, after)));
   }

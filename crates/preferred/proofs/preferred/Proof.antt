@@ -8,7 +8,7 @@ use Rattle.model.specs.Sheet.{Plant}
 use Rattle.theory.specs.Tables.{rows}
 use Rattle.theory.specs.Value.{BestValues}
 use Rattle.theory.proofs.Value.{no-values}
-use Rattle.preferred.proofs.Laws.{size-at, all-handed, sum-fits, one-more}
+use Rattle.preferred.proofs.Laws.{size-at, all-handed, one-more}
 use Rattle.preferred.proofs.preferred.Statement.{statement}
 use Rattle.preferred.proofs.preferred.Tie as tie
 
@@ -60,11 +60,10 @@ shl-word c = omega arith
 
 add-word : tie.Need-add-word Inv-loop μ-loop
 add-word c =
-    let size = c .before .wide in
     let more = c .before .before .before .before .loop-test in
     let h = c .before .before .before .before .before in
     let s = h .before .before .before in
-    omega (arith, sum-fits (s .args .sizes .now) (s .args .costs .now) (s .args .d) (s .pre) (h .loop .v) (size .result) (c .cheapest .result) (h .loop .word) (more .taken) (size .ensures) (c .cheapest .ensures) (h .loop .inv .1))
+    omega (arith, one-more (s .args .sizes .now) (s .args .costs .now) (s .args .d) (s .pre) (h .loop .v) (c .cheapest .result) (more .taken) (c .before .wide .ensures) (c .cheapest .ensures) (h .loop .inv .1) .one-word)
 
 add-v : tie.Need-add-v Inv-loop μ-loop
 add-v c = omega arith
@@ -74,18 +73,15 @@ loop-less c = omega arith
 
 loop-again : tie.Need-loop-again Inv-loop μ-loop
 loop-again c =
-    let size = c .before .wide in
     let more = c .before .before .before .before .loop-test in
     let h = c .before .before .before .before .before in
-    let s = h .before .before .before in (
-      omega arith,
-      one-more (s .args .sizes .now) (s .args .costs .now) (s .args .d) (s .pre) (h .loop .v) (size .result) (c .cheapest .result) (h .loop .word) (more .taken) (size .ensures) (c .cheapest .ensures) (h .loop .inv .1),
-    )
+    let s = h .before .before .before in
+    (omega arith, one-more (s .args .sizes .now) (s .args .costs .now) (s .args .d) (s .pre) (h .loop .v) (c .cheapest .result) (more .taken) (c .before .wide .ensures) (c .cheapest .ensures) (h .loop .inv .1))
 
 returns : tie.Need-returns Inv-loop μ-loop
 returns c p counts lits t =
     let s = c .before .before .before .before in
-    rw (ap (λ (q : Plant). q .costs) (t .plant)) (all-handed (s .args .sizes .now) (s .args .costs .now) (s .args .d) (s .pre) (c .before .loop .v) (c .before .loop .word) (omega arith) (c .before .loop .inv .1))
+    rw (ap (λ (q : Plant). q .costs) (t .plant)) (all-handed (s .args .sizes .now) (s .args .costs .now) (s .args .d) (s .pre) (c .before .loop .v) (omega arith) (c .before .loop .inv .1))
 
 pub preferred-spec : {M : Type 1} → statement M
 preferred-spec =
