@@ -1,5 +1,5 @@
 /* Runs all implementations on the same cases and compares every answer and
- * every lent word; no timing. Exits with 1 on a difference.
+ * every lent word and byte; no timing. Exits with 1 on a difference.
  *
  *   check corpus SHEET...
  *   check sheets|tests|listings STREAM [LINES]
@@ -19,6 +19,22 @@ enum { LINE_MOST = 256, DIFFERENCES_SHOWN = 10 };
 
 static unsigned cases, comparisons, differences;
 static struct lent lent, first_lent;
+
+static const uint32_t FNV_START = UINT32_C(2166136261);
+
+static uint32_t fnv(uint32_t checksum, uint64_t word, int width)
+{
+    for (int shift = 8 * (width - 1); shift >= 0; shift -= 8)
+        checksum = (checksum ^ (uint8_t)(word >> shift)) * UINT32_C(16777619);
+    return checksum;
+}
+
+static uint32_t fnv_bytes(uint32_t checksum, const uint8_t *bytes, size_t length)
+{
+    for (size_t i = 0; i < length; i++)
+        checksum = fnv(checksum, bytes[i], 1);
+    return checksum;
+}
 
 static void differ(const char *where, const char *name, const char *got, const char *wanted)
 {
@@ -88,9 +104,11 @@ static void check_sheet_case(struct stream *s)
         strcpy(wanted, "refused 0");
     for (int i = 0; i < IMPLEMENTATIONS; i++) {
         uint32_t result[2];
+        uint8_t shown[STATE_BYTES];
         if (!implementations[i].test)
             continue;
-        uint32_t refusal = implementations[i].test(sheet.at, sheet.length, 0, 0, 0, result, 2);
+        uint32_t refusal =
+            implementations[i].test(sheet.at, sheet.length, 0, 0, 0, shown, result, 2);
         snprintf(got, sizeof got, "refused %" PRIu32, refusal);
         if (i == 0)
             strcpy(first, got);
@@ -100,8 +118,9 @@ static void check_sheet_case(struct stream *s)
 
 /* ---- tests and reductions ---- */
 
-/* Of each buffer LENT_WORDS are there, and so many of them are lent. */
-enum { LENT_WORDS = 4, WORD_JUNK = 7 };
+/* Of each buffer LENT_WORDS are there, and so many of them are lent; of the bytes
+ * shown all but the spare ones. */
+enum { LENT_WORDS = 4, WORD_JUNK = 7, BYTE_JUNK = 0x55 };
 
 struct call {
     bool reduces;
@@ -122,18 +141,46 @@ static bool untouched(const uint64_t *conflict, int from, const uint32_t *result
     return same;
 }
 
+/* Whether these bytes all are the byte. */
+static bool all_are(const uint8_t *bytes, size_t from, size_t to, uint8_t byte)
+{
+    bool same = true;
+    for (size_t i = from; i < to; i++)
+        same &= bytes[i] == byte;
+    return same;
+}
+
+/* The checksum of what a test shows, to the end of its line; of zeros where it is
+ * refused, as the outside program has it, since then nothing is written. */
+static void add_shown(uint8_t *shown, uint32_t refusal, bool consistent, char *line)
+{
+    bool as_it_may = all_are(shown, STATE_BYTES, STATE_BYTES + SPARE, BYTE_JUNK);
+    if (refusal) {
+        as_it_may &= all_are(shown, 0, STATE_BYTES, BYTE_JUNK);
+        memset(shown, 0, STATE_BYTES);
+    } else if (!consistent) {
+        as_it_may &= all_are(shown, 0, STATE_BYTES, 0);
+    }
+    snprintf(line + strlen(line), LINE_MOST - strlen(line), " %08" PRIx32,
+             fnv_bytes(FNV_START, shown, STATE_BYTES));
+    if (!as_it_may)
+        strcat(line, " and showed what it may not");
+}
+
 static void call_line(const struct implementation *own, const struct call *c, char *line)
 {
     static const char *const names[2][4] = {{"?", "consistent", "inconsistent", "spent"},
                                             {"?", "none", "conflict", "spent"}};
     uint64_t conflict[LENT_WORDS] = {WORD_JUNK, WORD_JUNK, WORD_JUNK, WORD_JUNK};
     uint32_t result[LENT_WORDS] = {WORD_JUNK, WORD_JUNK, WORD_JUNK, WORD_JUNK};
+    uint8_t shown[STATE_BYTES + SPARE];
+    memset(shown, BYTE_JUNK, sizeof shown);
     const struct bytes s = c->sheet;
     uint32_t refusal = c->reduces
                            ? own->reduce(s.at, s.length, c->mask, c->values, c->limit, conflict,
                                          c->conflict_len, result, c->result_len)
-                           : own->test(s.at, s.length, c->mask, c->values, c->limit, result,
-                                       c->result_len);
+                           : own->test(s.at, s.length, c->mask, c->values, c->limit, shown,
+                                       result, c->result_len);
     bool found = c->reduces && !refusal && result[0] == INCONSISTENT;
     if (refusal)
         snprintf(line, LINE_MOST, "refused %" PRIu32, refusal);
@@ -142,6 +189,8 @@ static void call_line(const struct implementation *own, const struct call *c, ch
                  conflict[1], result[1]);
     else
         snprintf(line, LINE_MOST, "%s %" PRIu32, names[c->reduces][result[0] & 3], result[1]);
+    if (!c->reduces)
+        add_shown(shown, refusal, result[0] == CONSISTENT, line);
     if (!untouched(conflict, found ? CONFLICT_WORDS : 0, result, refusal ? 0 : ANSWER_WORDS))
         strcat(line, " and wrote where it may not");
 }
@@ -177,20 +226,14 @@ static void check_test_case(struct stream *s)
 
 /* ---- listings ---- */
 
-static uint32_t fnv(uint32_t checksum, uint64_t word, int width)
-{
-    for (int shift = 8 * (width - 1); shift >= 0; shift -= 8)
-        checksum = (checksum ^ (uint8_t)(word >> shift)) * UINT32_C(16777619);
-    return checksum;
-}
-
 static uint32_t lent_checksum(const struct lent *l)
 {
-    uint32_t checksum = UINT32_C(2166136261);
+    uint32_t checksum = FNV_START;
     for (size_t i = 0; i < l->codes_len; i++)
         checksum = fnv(checksum, l->codes[i], 8);
     for (size_t i = 0; i < l->costs_len; i++)
         checksum = fnv(checksum, l->costs[i], 4);
+    checksum = fnv_bytes(checksum, l->values, l->values_len);
     for (size_t i = 0; i < l->queue_len; i++)
         checksum = fnv(checksum, l->queue[i], 8);
     for (size_t i = 0; i < l->store_len; i++)
@@ -216,6 +259,7 @@ static void lend(const struct lent *lengths, const uint64_t *given, size_t given
     fill_with_junk(&lent);
     lent.codes_len = lengths->codes_len;
     lent.costs_len = lengths->costs_len;
+    lent.values_len = lengths->values_len;
     lent.queue_len = lengths->queue_len;
     lent.store_len = lengths->store_len;
     lent.result_len = lengths->result_len;
@@ -224,7 +268,7 @@ static void lend(const struct lent *lengths, const uint64_t *given, size_t given
 }
 
 /* All implementations against the line, or against the first of them; every
- * lent word and the spare ones against the first's. A refusal changes none. */
+ * lent word and byte and the spare ones against the first's. A refusal changes none. */
 static void check_listing(const char *where, struct bytes sheet, struct settings settings,
                           const struct lent *lengths, const uint64_t *given, size_t given_len,
                           const char *wanted)
@@ -259,6 +303,9 @@ static void check_listing_case(struct stream *s)
     settings.k = (uint32_t)number(s, 4);
     lengths.codes_len = number(s, 2);
     lengths.costs_len = number(s, 2);
+    lengths.values_len = number(s, 4);
+    if (lengths.values_len > LENT_BYTES_MOST - SPARE)
+        give_up("too many bytes of values", "");
     lengths.queue_len = number(s, 2);
     lengths.store_len = number(s, 2);
     lengths.result_len = RESULT_WORDS + 1;
@@ -296,13 +343,14 @@ static void check_stream(const char *kind, const char *path, const char *lines_p
 /* ---- corpus ---- */
 
 /* A listing under other settings: queue and store in entries. One result word
- * more than six is lent. */
+ * more than six is lent, and of values one byte more than k states have. */
 static void check_run(const char *path, struct bytes sheet, struct settings settings,
                       size_t queue, size_t store, const uint64_t *given)
 {
     static struct lent lengths;
     lengths.codes_len = settings.k + 3;
     lengths.costs_len = settings.k + 1;
+    lengths.values_len = STATE_BYTES * (size_t)settings.k + 1;
     lengths.queue_len = 2 * queue;
     lengths.store_len = 2 * store;
     lengths.result_len = RESULT_WORDS + 1;
@@ -319,18 +367,22 @@ static void check_refused(const char *path, struct bytes sheet, struct settings 
     check_listing(path, sheet, settings, lengths, NULL, 0, wanted);
 }
 
-/* Fewer than six result words are refused, after k and before the queue. */
-static void check_short_result(const char *path, struct bytes sheet)
+/* Fewer than six result words are refused, after k and before the values, and these
+ * before the queue. */
+static void check_short_buffers(const char *path, struct bytes sheet)
 {
-    static struct lent lengths = {.codes_len = 16, .costs_len = 16, .result_len = 5};
+    static struct lent lengths = {.codes_len = 16, .costs_len = 16};
     struct settings settings = {16, 0, 1000};
+    lengths.result_len = 5;
+    lengths.values_len = STATE_BYTES * 16 - 1;
     check_refused(path, sheet, settings, &lengths, 2);
     settings.k = 0;
     check_refused(path, sheet, settings, &lengths, 1);
     lengths.result_len = RESULT_WORDS;
     settings.k = 16;
+    check_refused(path, sheet, settings, &lengths, 19);
+    lengths.values_len++;
     check_refused(path, sheet, settings, &lengths, 3);
-    lengths.result_len = 5;
 }
 
 /* The corpus's own run, then shorter limits, queues and stores, then a run
@@ -369,9 +421,13 @@ static void check_calls(const char *path, struct bytes sheet)
 /* Fewer than two words of a buffer are refused, before the mask and the sheet. */
 static void check_short_answers(const char *path, struct bytes sheet)
 {
+    char test_refused_2[LINE_MOST] = "refused 2";
+    uint8_t shown[STATE_BYTES + SPARE];
+    memset(shown, BYTE_JUNK, sizeof shown);
+    add_shown(shown, 2, false, test_refused_2);
     for (size_t length = 0; length < 2; length++) {
         struct call c = {false, sheet, 1, 0, 1000, LENT_WORDS, length};
-        check_call(path, &c, "refused 2");
+        check_call(path, &c, test_refused_2);
         c.reduces = true;
         check_call(path, &c, "refused 2");
         c.conflict_len = length;
@@ -386,7 +442,7 @@ static void check_sheet(const char *path)
 {
     struct bytes sheet = file_bytes(path);
     check_runs(path, sheet);
-    check_short_result(path, sheet);
+    check_short_buffers(path, sheet);
     check_calls(path, sheet);
     check_short_answers(path, sheet);
     free(sheet.at);

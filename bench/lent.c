@@ -2,6 +2,7 @@
 
 #include <stdio.h>
 #include <stdlib.h>
+#include <string.h>
 
 void fill_with_junk(struct lent *lent)
 {
@@ -13,13 +14,15 @@ void fill_with_junk(struct lent *lent)
     }
     for (uint32_t i = 0; i < RESULT_WORDS + SPARE; i++)
         lent->result[i] = UINT32_C(0x55555555) + i;
+    memset(lent->values, 0x55, sizeof lent->values);
 }
 
 uint32_t list_lent(list_call *list, struct bytes sheet, struct lent *lent, struct settings s)
 {
     return list(sheet.at, sheet.length, lent->codes, lent->codes_len, lent->costs,
-                lent->costs_len, lent->queue, lent->queue_len, lent->store, lent->store_len,
-                lent->result, lent->result_len, s.k, s.held, s.limit);
+                lent->costs_len, lent->values, lent->values_len, lent->queue, lent->queue_len,
+                lent->store, lent->store_len, lent->result, lent->result_len, s.k, s.held,
+                s.limit);
 }
 
 _Noreturn void give_up(const char *what, const char *which)

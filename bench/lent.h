@@ -4,14 +4,19 @@
 
 #include "calls.h"
 
-enum { SPARE = 4, LENT_MOST = 65536 + SPARE };
+enum {
+    SPARE = 4,
+    LENT_MOST = 65536 + SPARE,
+    LENT_BYTES_MOST = 196700 + SPARE
+};
 
-/* Lengths are in words; SPARE words stand behind each buffer, never lent. */
+/* Lengths are in elements; SPARE ones stand behind each buffer, never lent. */
 struct lent {
-    size_t codes_len, costs_len, queue_len, store_len, result_len;
+    size_t codes_len, costs_len, values_len, queue_len, store_len, result_len;
     uint64_t codes[LENT_MOST], queue[LENT_MOST], store[LENT_MOST];
     uint32_t costs[LENT_MOST];
     uint32_t result[RESULT_WORDS + SPARE];
+    uint8_t values[LENT_BYTES_MOST];
 };
 
 struct settings {
@@ -25,7 +30,7 @@ struct bytes {
     size_t length;
 };
 
-/* Every word its junk (outside/README.md), the spare ones too. */
+/* Every element its junk (outside/README.md), the spare ones too. */
 void fill_with_junk(struct lent *lent);
 
 /* The listing with the lent lengths. */

@@ -38,6 +38,7 @@ struct run {
     size_t stored, store_entries;
     uint64_t *codes;
     uint32_t *costs;
+    uint8_t *values;
     uint32_t k, listed, tested, learned, unkept;
     struct meter meter;
 };
@@ -110,9 +111,10 @@ static enum answer check_offered(struct run *r, size_t held)
 {
     for (size_t i = 0; i < held; i++) {
         uint64_t mask = r->store[2 * i], values = r->store[2 * i + 1];
+        uint8_t shown[STATE_BYTES];
         if (ill_formed(&r->plant, mask, values))
             continue;
-        enum answer answer = test(&r->plant, mask, values, &r->meter);
+        enum answer answer = test(&r->plant, mask, values, &r->meter, shown);
         if (answer == SPENT)
             return SPENT;
         if (answer == INCONSISTENT) {
@@ -216,13 +218,15 @@ static enum ending test_full(struct run *r, const struct node *n)
 {
     if (r->tested == UINT32_MAX)
         return OUT_OF_TRIALS;
-    enum answer answer = test(&r->plant, n->mask, n->values, &r->meter);
+    uint8_t shown[STATE_BYTES];
+    enum answer answer = test(&r->plant, n->mask, n->values, &r->meter, shown);
     if (answer == SPENT)
         return OUT_OF_TRIALS;
     r->tested++;
     if (answer == CONSISTENT) {
         r->codes[r->listed] = n->code;
         r->costs[r->listed] = n->cost;
+        memcpy(&r->values[STATE_BYTES * (size_t)r->listed], shown, STATE_BYTES);
         r->listed++;
     } else if (r->stored == r->store_entries) {
         r->unkept++;
@@ -267,14 +271,17 @@ static enum ending steps(struct run *r, size_t held)
 
 /* ---- the calls ---- */
 
-/* Refusals 1 to 4. */
-static uint32_t host_refusal(size_t codes_len, size_t costs_len, size_t queue_len,
-                             size_t store_len, size_t result_len, uint32_t k, size_t held)
+/* Refusals 1 to 4, and 19 among them. */
+static uint32_t host_refusal(size_t codes_len, size_t costs_len, size_t values_len,
+                             size_t queue_len, size_t store_len, size_t result_len, uint32_t k,
+                             size_t held)
 {
     if (k < 1 || k > K_MOST)
         return 1;
     if (codes_len < k || costs_len < k || result_len < RESULT_WORDS)
         return 2;
+    if (values_len < STATE_BYTES * (size_t)k)
+        return 19;
     if (queue_len % 2 || queue_len < 2 || queue_len > QUEUE_WORDS_MOST)
         return 3;
     if (store_len % 2 || store_len > STORE_WORDS_MOST || held > store_len / 2)
@@ -283,12 +290,12 @@ static uint32_t host_refusal(size_t codes_len, size_t costs_len, size_t queue_le
 }
 
 uint32_t plain_list(const uint8_t *sheet, size_t sheet_len, uint64_t *codes, size_t codes_len,
-                    uint32_t *costs, size_t costs_len, uint64_t *queue, size_t queue_len,
-                    uint64_t *store, size_t store_len, uint32_t *result, size_t result_len,
-                    uint32_t k, size_t held, uint32_t limit)
+                    uint32_t *costs, size_t costs_len, uint8_t *values, size_t values_len,
+                    uint64_t *queue, size_t queue_len, uint64_t *store, size_t store_len,
+                    uint32_t *result, size_t result_len, uint32_t k, size_t held, uint32_t limit)
 {
-    uint32_t refusal =
-        host_refusal(codes_len, costs_len, queue_len, store_len, result_len, k, held);
+    uint32_t refusal = host_refusal(codes_len, costs_len, values_len, queue_len, store_len,
+                                    result_len, k, held);
     if (refusal)
         return refusal;
     struct run r;
@@ -301,6 +308,7 @@ uint32_t plain_list(const uint8_t *sheet, size_t sheet_len, uint64_t *codes, siz
     r.store_entries = store_len / 2;
     r.codes = codes;
     r.costs = costs;
+    r.values = values;
     r.k = k;
     r.listed = r.tested = r.learned = r.unkept = 0;
     r.meter = (struct meter){0, limit};
@@ -322,7 +330,7 @@ static uint32_t read_call(const uint8_t *sheet, size_t sheet_len, uint64_t mask,
 }
 
 uint32_t plain_test(const uint8_t *sheet, size_t sheet_len, uint64_t mask, uint64_t values,
-                    uint32_t limit, uint32_t *result, size_t result_len)
+                    uint32_t limit, uint8_t *shown, uint32_t *result, size_t result_len)
 {
     struct plant plant;
     if (result_len < ANSWER_WORDS)
@@ -331,7 +339,7 @@ uint32_t plain_test(const uint8_t *sheet, size_t sheet_len, uint64_t mask, uint6
     if (refusal)
         return refusal;
     struct meter meter = {0, limit};
-    result[0] = test(&plant, mask, values, &meter);
+    result[0] = test(&plant, mask, values, &meter, shown);
     result[1] = meter.trials;
     return 0;
 }
@@ -347,7 +355,8 @@ uint32_t plain_reduce(const uint8_t *sheet, size_t sheet_len, uint64_t mask, uin
     if (refusal)
         return refusal;
     struct meter meter = {0, limit};
-    enum answer answer = test(&plant, mask, values, &meter);
+    uint8_t shown[STATE_BYTES];
+    enum answer answer = test(&plant, mask, values, &meter, shown);
     if (answer == INCONSISTENT)
         answer = reduce(&plant, &mask, &values, &meter);
     if (answer == INCONSISTENT) {

@@ -175,17 +175,23 @@ static enum answer descend(const struct plant *p, uint8_t *setting, unsigned v,
     return INCONSISTENT;
 }
 
+/* Shows the value of every variable where the answer is CONSISTENT, and zeros
+ * otherwise and beyond them. */
 static enum answer test(const struct plant *p, uint64_t mask, uint64_t values,
-                        struct meter *meter)
+                        struct meter *meter, uint8_t *shown)
 {
     uint8_t setting[VARIABLES_MOST];
     memset(setting, UNASSIGNED, sizeof setting);
     for (unsigned v = 0; v < p->decisions; v++)
         if (assigned(mask, v))
             setting[v] = (uint8_t)value_of(values, v);
-    if (some_clause_is_false(p, setting))
-        return INCONSISTENT;
-    return descend(p, setting, 0, meter);
+    enum answer answer = INCONSISTENT;
+    if (!some_clause_is_false(p, setting))
+        answer = descend(p, setting, 0, meter);
+    memset(shown, 0, STATE_BYTES);
+    if (answer == CONSISTENT)
+        memcpy(shown, setting, p->variables);
+    return answer;
 }
 
 /* Reduces an assignment found inconsistent: INCONSISTENT, or SPENT. */
@@ -194,10 +200,11 @@ static enum answer reduce(const struct plant *p, uint64_t *mask, uint64_t *value
 {
     for (unsigned v = 0; v < p->decisions; v++) {
         uint64_t rest_mask = *mask, rest_values = *values;
+        uint8_t shown[STATE_BYTES];
         unassign(&rest_mask, &rest_values, v);
         if (rest_mask == *mask)
             continue;
-        enum answer answer = test(p, rest_mask, rest_values, meter);
+        enum answer answer = test(p, rest_mask, rest_values, meter, shown);
         if (answer == SPENT)
             return SPENT;
         if (answer == INCONSISTENT) {

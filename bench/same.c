@@ -21,6 +21,7 @@ struct run {
     uint8_t cheapest[DECISIONS_MOST];
     uint64_t *queue, *store, *codes;
     uint32_t *costs;
+    uint8_t *values;
     size_t queued, queue_entries, stored, store_entries;
     uint32_t k, listed, tested, learned, unkept;
 };
@@ -142,6 +143,7 @@ static enum ending test_full(struct run *r, struct entry e)
     if (answer == CONSISTENT) {
         r->codes[r->listed] = e.code;
         r->costs[r->listed] = (uint32_t)cost_of(e);
+        show(&r->search, &r->values[STATE_BYTES * (size_t)r->listed]);
         r->listed++;
         return GOING_ON;
     }
@@ -200,14 +202,17 @@ static enum ending steps(struct run *r, size_t held)
 
 /* ---- the calls ---- */
 
-/* Refusals 1 to 4. */
-static uint32_t host_refusal(size_t codes_len, size_t costs_len, size_t queue_len,
-                             size_t store_len, size_t result_len, uint32_t k, size_t held)
+/* Refusals 1 to 4, and 19 among them. */
+static uint32_t host_refusal(size_t codes_len, size_t costs_len, size_t values_len,
+                             size_t queue_len, size_t store_len, size_t result_len, uint32_t k,
+                             size_t held)
 {
     if (k == 0 || k > K_MOST)
         return 1;
     if (k > codes_len || k > costs_len || result_len < RESULT_WORDS)
         return 2;
+    if (STATE_BYTES * (size_t)k > values_len)
+        return 19;
     if (queue_len % 2 == 1 || queue_len < 2 || queue_len > QUEUE_WORDS_MOST)
         return 3;
     if (store_len % 2 == 1 || store_len > STORE_WORDS_MOST || held > store_len / 2)
@@ -216,12 +221,12 @@ static uint32_t host_refusal(size_t codes_len, size_t costs_len, size_t queue_le
 }
 
 uint32_t same_list(const uint8_t *sheet, size_t sheet_len, uint64_t *codes, size_t codes_len,
-                   uint32_t *costs, size_t costs_len, uint64_t *queue, size_t queue_len,
-                   uint64_t *store, size_t store_len, uint32_t *result, size_t result_len,
-                   uint32_t k, size_t held, uint32_t limit)
+                   uint32_t *costs, size_t costs_len, uint8_t *values, size_t values_len,
+                   uint64_t *queue, size_t queue_len, uint64_t *store, size_t store_len,
+                   uint32_t *result, size_t result_len, uint32_t k, size_t held, uint32_t limit)
 {
-    uint32_t refusal =
-        host_refusal(codes_len, costs_len, queue_len, store_len, result_len, k, held);
+    uint32_t refusal = host_refusal(codes_len, costs_len, values_len, queue_len, store_len,
+                                    result_len, k, held);
     if (refusal)
         return refusal;
     struct tables tables;
@@ -239,6 +244,7 @@ uint32_t same_list(const uint8_t *sheet, size_t sheet_len, uint64_t *codes, size
     r.store = store;
     r.codes = codes;
     r.costs = costs;
+    r.values = values;
     r.queue_entries = queue_len / 2;
     r.store_entries = store_len / 2;
     r.queued = r.stored = 0;
@@ -258,7 +264,7 @@ uint32_t same_list(const uint8_t *sheet, size_t sheet_len, uint64_t *codes, size
 }
 
 uint32_t same_test(const uint8_t *sheet, size_t sheet_len, uint64_t mask, uint64_t values,
-                   uint32_t limit, uint32_t *result, size_t result_len)
+                   uint32_t limit, uint8_t *shown, uint32_t *result, size_t result_len)
 {
     struct tables tables;
     if (result_len < ANSWER_WORDS)
@@ -277,6 +283,10 @@ uint32_t same_test(const uint8_t *sheet, size_t sheet_len, uint64_t mask, uint64
     s.limit = limit;
     result[0] = test(&s, mask, values);
     result[1] = s.trials;
+    if (result[0] == CONSISTENT)
+        show(&s, shown);
+    else
+        memset(shown, 0, STATE_BYTES);
     return 0;
 }
 

@@ -377,6 +377,14 @@ static enum answer test(struct search *s, uint64_t mask, uint64_t values)
     return s->tables->clauses <= 128 ? test_pairs(s) : test_rows(s);
 }
 
+/* Shows the values that a consistent test found. */
+static void show(const struct search *s, uint8_t *shown)
+{
+    size_t variables = s->tables->variables;
+    memcpy(shown, s->values, variables);
+    memset(shown + variables, 0, STATE_BYTES - variables);
+}
+
 /* Reduces an assignment found inconsistent: INCONSISTENT, or SPENT. */
 static enum answer reduce(struct search *s, uint64_t *mask, uint64_t *values)
 {

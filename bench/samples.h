@@ -17,13 +17,14 @@ static void run(const struct job *j)
     uint32_t refusal;
     if (j->settings.k) {
         lent.codes_len = lent.costs_len = j->settings.k;
+        lent.values_len = STATE_BYTES * lent.codes_len;
         lent.queue_len = 2 * j->queue;
         lent.store_len = 2 * j->store;
         lent.result_len = RESULT_WORDS;
         refusal = list_lent(j->own->list, sheet, &lent, j->settings);
     } else {
         refusal = j->own->test(sheet.at, sheet.length, j->mask, j->values, j->settings.limit,
-                               lent.result, 2);
+                               lent.values, lent.result, 2);
     }
     if (refusal)
         give_up("refused by", j->own->name);

@@ -7,6 +7,27 @@ change("refusalNumber: the author's as 5", "Calls", "refusalNumber (byAuthor n) 
 change("refusalNumber: the host's as 0", "Calls", "refusalNumber (byHost n) = n", "refusalNumber (byHost n) = 0")
 change("firstGiven: the last", "Calls", "[ true ↦ some (g .number) | false ↦ firstGiven gs ]", "[ true ↦ elim (firstGiven gs) [ some n ↦ some n | none ↦ some (g .number) ] | false ↦ firstGiven gs ]")
 change("firstGiven: only the first looked at", "Calls", "| false ↦ firstGiven gs ]", "| false ↦ none ]")
+change("47 bytes a state", "Calls", "stateBytes = 48", "stateBytes = 47")
+change("49 bytes a state", "Calls", "stateBytes = 48", "stateBytes = 49")
+PADDED = "valueBytes f = f ++ replicate (stateBytes - length f) 0"
+change("valueBytes: ones beyond", "Calls", PADDED, PADDED.replace(") 0", ") 1"))
+change("valueBytes: not padded", "Calls", PADDED, "valueBytes f = f")
+change("valueBytes: padded in front", "Calls", PADDED, "valueBytes f = replicate (stateBytes - length f) 0 ++ f")
+change("valueBytes: a zero too many", "Calls", PADDED, PADDED.replace("(stateBytes - length f)", "(suc (stateBytes - length f))"))
+change("valueBytes: a zero too few", "Calls", PADDED, PADDED.replace("(stateBytes - length f)", "(stateBytes - suc (length f))"))
+change("valueBytes: 48 zeros behind", "Calls", PADDED, PADDED.replace("(stateBytes - length f)", "stateBytes"))
+change("valueBytes: the last value cut", "Calls", PADDED, "valueBytes f = take (length f - 1) f ++ replicate (stateBytes - (length f - 1)) 0")
+change("valueBytes: the first value cut", "Calls", PADDED, "valueBytes f = drop 1 f ++ replicate (stateBytes - (length f - 1)) 0")
+change("valueBytes: sixteen values only", "Calls", PADDED, "valueBytes f = take 16 f ++ replicate (stateBytes - length (take 16 f)) 0")
+change("valueBytes: 47 values at most", "Calls", PADDED, "valueBytes f = take 47 f ++ replicate (stateBytes - length (take 47 f)) 0")
+change("shownBy: consistent shows zeros", "Calls", "shownBy (consistent f t) = valueBytes f", "shownBy (consistent f t) = replicate stateBytes 0")
+change("shownBy: consistent not padded", "Calls", "shownBy (consistent f t) = valueBytes f", "shownBy (consistent f t) = f")
+for other in ("inconsistent", "Tested.spent"):
+    zeros = f"shownBy ({other} t) = replicate stateBytes 0"
+    change(f"shownBy: {other} shows ones", "Calls", zeros, zeros.replace("stateBytes 0", "stateBytes 1"))
+    change(f"shownBy: {other} shows 47 zeros", "Calls", zeros, zeros.replace("stateBytes 0", "(stateBytes - 1) 0"))
+    change(f"shownBy: {other} shows nothing", "Calls", zeros, f"shownBy ({other} t) = []")
+    change(f"shownBy: {other} shows its trials", "Calls", zeros, f"shownBy ({other} t) = valueBytes (t ∷ [])")
 change("14 and 15 swapped", "Calls", "ground (not (maskFits domains mask)) 14 ∷ ground (not (valuesFit domains mask values)) 15 ∷ []", "ground (not (maskFits domains mask)) 15 ∷ ground (not (valuesFit domains mask values)) 14 ∷ []")
 change("15 before 14", "Calls", "ground (not (maskFits domains mask)) 14 ∷ ground (not (valuesFit domains mask values)) 15 ∷ []", "ground (not (valuesFit domains mask values)) 15 ∷ ground (not (maskFits domains mask)) 14 ∷ []")
 change("14 unchecked", "Calls", "ground (not (maskFits domains mask)) 14 ∷ ", "")
@@ -42,16 +63,30 @@ change("empty store refused", "Calls", "ground (odd (length (b .store)) ||", "gr
 change("held unchecked", "Calls", " || ltb (length (b .store) / 2) held) 4", ") 4")
 change("held up to the words", "Calls", "ltb (length (b .store) / 2) held) 4", "ltb (length (b .store)) held) 4")
 change("held as many as entries refused", "Calls", "ltb (length (b .store) / 2) held) 4", "leb (length (b .store) / 2) held) 4")
-change("3 before 2", "Calls", """    ∷ ground (ltb (length (b .codes)) k || ltb (length (b .costs)) k || resultShort) 2
-    ∷ ground (odd (length (b .queue)) || ltb (length (b .queue)) 2 || ltb mostWords (length (b .queue))) 3
-""", """    ∷ ground (odd (length (b .queue)) || ltb (length (b .queue)) 2 || ltb mostWords (length (b .queue))) 3
-    ∷ ground (ltb (length (b .codes)) k || ltb (length (b .costs)) k || resultShort) 2
-""")
-change("4 before 3", "Calls", """    ∷ ground (odd (length (b .queue)) || ltb (length (b .queue)) 2 || ltb mostWords (length (b .queue))) 3
-    ∷ ground (odd (length (b .store)) || ltb mostWords (length (b .store)) || ltb (length (b .store) / 2) held) 4
-""", """    ∷ ground (odd (length (b .store)) || ltb mostWords (length (b .store)) || ltb (length (b .store) / 2) held) 4
-    ∷ ground (odd (length (b .queue)) || ltb (length (b .queue)) 2 || ltb mostWords (length (b .queue))) 3
-""")
+HOST1 = "    ground (not (leb 1 k && leb k mostListed)) 1\n"
+HOST2 = "    ∷ ground (ltb (length (b .codes)) k || ltb (length (b .costs)) k || resultShort) 2\n"
+HOST19 = "    ∷ ground (ltb (length (b .values)) (stateBytes * k)) 19\n"
+HOST3 = "    ∷ ground (odd (length (b .queue)) || ltb (length (b .queue)) 2 || ltb mostWords (length (b .queue))) 3\n"
+HOST4 = "    ∷ ground (odd (length (b .store)) || ltb mostWords (length (b .store)) || ltb (length (b .store) / 2) held) 4\n"
+change("3 before 2", "Calls", HOST2 + HOST19 + HOST3, HOST3 + HOST2 + HOST19)
+change("4 before 3", "Calls", HOST3 + HOST4, HOST4 + HOST3)
+change("19 before 1", "Calls", HOST1 + HOST2 + HOST19, HOST19.replace("∷ ", "", 1) + HOST1.replace("ground", "∷ ground", 1) + HOST2)
+change("19 before 1 where 2 is not given", "Calls", HOST1, HOST19.replace("∷ ", "", 1).replace("(stateBytes * k)", "(stateBytes * k) && not (ltb (length (b .codes)) k || ltb (length (b .costs)) k || resultShort)") + HOST1.replace("ground", "∷ ground", 1))
+change("19 before 2", "Calls", HOST2 + HOST19, HOST19 + HOST2)
+change("19 after 3", "Calls", HOST19 + HOST3, HOST3 + HOST19)
+change("19 after 4", "Calls", HOST19 + HOST3 + HOST4, HOST3 + HOST4 + HOST19)
+change("19 after the sheet", "Calls", HOST19, "", "| got p end ↦ calledOf (orderOf p) b (runOf p k b held limit)", "| got p end ↦ elim (ltb (length (b .values)) (stateBytes * k)) [ true ↦ refusing b (byHost 19) | false ↦ calledOf (orderOf p) b (runOf p k b held limit) ]")
+change("19 unchecked", "Calls", HOST19, "")
+change("19 numbered 2", "Calls", HOST19, HOST19.replace("19", "2"))
+change("19 blamed on the author", "Calls", "| some n ↦ refusing b (byHost n)", "| some n ↦ refusing b (elim (eqb n 19) [ true ↦ byAuthor n | false ↦ byHost n ])")
+change("values of k states refused", "Calls", HOST19, HOST19.replace("ltb", "leb"))
+change("values a byte short accepted", "Calls", HOST19, HOST19.replace("ltb (length (b .values))", "ltb (suc (length (b .values)))"))
+change("values longer than k states refused", "Calls", HOST19, HOST19.replace("ltb (length (b .values)) (stateBytes * k)", "not (eqb (length (b .values)) (stateBytes * k))"))
+change("values of k + 1 states wanted", "Calls", HOST19, HOST19.replace("stateBytes * k", "stateBytes * suc k"))
+change("values of k - 1 states suffice", "Calls", HOST19, HOST19.replace("stateBytes * k", "stateBytes * (k - 1)"))
+change("values of one state suffice", "Calls", HOST19, HOST19.replace("stateBytes * k", "stateBytes"))
+change("values as many as k suffice", "Calls", HOST19, HOST19.replace("stateBytes * k", "k"))
+change("short result after 19", "Calls", HOST2 + HOST19, HOST2.replace(" || resultShort", "") + HOST19 + "    ∷ ground resultShort 2\n")
 change("short result comes last", "Calls", "ltb (length (b .costs)) k || resultShort) 2", "ltb (length (b .costs)) k) 2", "ltb (length (b .store) / 2) held) 4\n    ∷ []", "ltb (length (b .store) / 2) held) 4\n    ∷ ground resultShort 2\n    ∷ []")
 change("entries behind held taken", "Calls", "(offersOf held (b .store)) limit", "(offersOf (length (b .store) / 2) (b .store)) limit")
 change("one entry behind held taken", "Calls", "(offersOf held (b .store)) limit", "(offersOf (suc held) (b .store)) limit")
@@ -63,6 +98,24 @@ change("store after: first entry only", "Calls", "maskOf c ∷ valuesOf c ∷ en
 change("codes after: zeros beyond", "Calls", "codes = filled (map code (s .listed)) (b .codes);", "codes = filled (map code (s .listed)) (replicate (length (b .codes)) 0);")
 change("costs after: zeros beyond", "Calls", "costs = filled (map (o .figure) (s .listed)) (b .costs);", "costs = filled (map (o .figure) (s .listed)) (replicate (length (b .costs)) 0);")
 change("costs after: over the codes", "Calls", "costs = filled (map (o .figure) (s .listed)) (b .costs);", "costs = filled (map (o .figure) (s .listed)) (b .codes);")
+VALUES = "values = filled (inTurn valueBytes (s .shown)) (b .values);"
+change("values after: as lent", "Calls", VALUES, "values = b .values;")
+change("values after: zeros beyond", "Calls", VALUES, "values = filled (inTurn valueBytes (s .shown)) (replicate (length (b .values)) 0);")
+change("values after: nothing beyond", "Calls", VALUES, "values = inTurn valueBytes (s .shown);")
+change("values after: over the codes", "Calls", VALUES, VALUES.replace("(b .values)", "(b .codes)"))
+change("values after: of the decision variables only", "Calls", VALUES, VALUES.replace("s .shown", "s .listed"))
+change("values after: not padded", "Calls", VALUES, VALUES.replace("inTurn valueBytes", "inTurn (λ f. f)"))
+change("values after: the first state only", "Calls", VALUES, VALUES.replace("(s .shown)", "(take 1 (s .shown))"))
+change("values after: without the last state", "Calls", VALUES, VALUES.replace("(s .shown)", "(take (length (s .shown) - 1) (s .shown))"))
+change("values after: without the first state", "Calls", VALUES, VALUES.replace("(s .shown)", "(drop 1 (s .shown))"))
+change("values after: one byte more behind", "Calls", VALUES, "values = take (length (b .values)) (filled (inTurn valueBytes (s .shown) ++ (0 ∷ [])) (b .values));")
+change("values after: from the second state on", "Calls", VALUES, "values = take stateBytes (b .values) ++ filled (inTurn valueBytes (s .shown)) (drop stateBytes (b .values));")
+change("values after: the last state first", "Calls", "-- after every ending the queue is zero", """-- the bytes of each state, the last state first
+abbrev pub backwards : List (List ℕ) → List ℕ
+backwards [] = []
+backwards (f ∷ fs) = backwards fs ++ valueBytes f
+
+-- after every ending the queue is zero""", VALUES, VALUES.replace("inTurn valueBytes", "backwards"))
 change("queue after: as lent", "Calls", "queue = replicate (length (b .queue)) 0;", "queue = b .queue;")
 change("queue after: first entry zero", "Calls", "queue = replicate (length (b .queue)) 0;", "queue = filled (0 ∷ 0 ∷ []) (b .queue);")
 change("queue after: as long as the store", "Calls", "queue = replicate (length (b .queue)) 0;", "queue = replicate (length (b .store)) 0;")
@@ -72,6 +125,13 @@ change("store after: as lent", "Calls", "store = filled (entryWords (s .store)) 
 change("entriesOf: swapped", "Calls", "record { code = c; figure = d } ∷ entriesOf cs ds", "record { code = d; figure = c } ∷ entriesOf cs ds")
 change("runList: all codes", "Calls", "entriesOf (take listed (b .codes)) (take listed (b .costs))", "entriesOf (b .codes) (b .costs)")
 change("runList: one short", "Calls", "entriesOf (take listed (b .codes)) (take listed (b .costs))", "entriesOf (take (listed / 2) (b .codes)) (take listed (b .costs))")
+STATE = "stateValues i b = take stateBytes (drop (stateBytes * i) (b .values))"
+change("stateValues: the next state's", "Calls", STATE, STATE.replace("stateBytes * i", "stateBytes * suc i"))
+change("stateValues: the first state's", "Calls", STATE, "stateValues i b = take stateBytes (b .values)")
+change("stateValues: one byte a state", "Calls", STATE, STATE.replace("stateBytes * i", "i"))
+change("stateValues: the last byte missing", "Calls", STATE, STATE.replace("take stateBytes", "take (stateBytes - 1)"))
+change("stateValues: all bytes behind too", "Calls", STATE, "stateValues i b = drop (stateBytes * i) (b .values)")
+change("stateValues: of the codes", "Calls", STATE, STATE.replace("b .values", "b .codes"))
 change("counts: tested and learned swapped", "Calls", "tested = s .tested; learned = s .learned;", "tested = s .learned; learned = s .tested;")
 change("counts: learned and unkept swapped", "Calls", "learned = s .learned; unkept = s .unkept;", "learned = s .unkept; unkept = s .learned;")
 change("counts: listed of k", "Calls", "listed = length (s .listed); tested", "listed = s .tested; tested")
@@ -79,13 +139,14 @@ change("called: strike unsaid", "Calls", "struck = s .struck }", "struck = false
 change("run: queue words as entries", "Calls", "(length (b .queue) / 2) (length (b .store) / 2)", "(length (b .queue)) (length (b .store) / 2)")
 change("run: store words as entries", "Calls", "(length (b .queue) / 2) (length (b .store) / 2)", "(length (b .queue) / 2) (length (b .store))")
 change("run: queue and store swapped", "Calls", "(length (b .queue) / 2) (length (b .store) / 2)", "(length (b .store) / 2) (length (b .queue) / 2)")
-change("run: places less those held", "Calls", "(length (b .queue) / 2) (length (b .store) / 2)", "(length (b .queue) / 2) (length (b .store) / 2 - held)", "use Prim.Native.Nat.{ℕ, zero, suc, _/_, _%_}", "use Prim.Native.Nat.{ℕ, zero, suc, _-_, _/_, _%_}")
+change("run: places less those held", "Calls", "(length (b .queue) / 2) (length (b .store) / 2)", "(length (b .queue) / 2) (length (b .store) / 2 - held)")
 REFUSING = "refusing b r = record { answer = refused r; after = b; struck = false }"
-for part in ("codes", "costs", "queue", "store"):
-    new = "; ".join(f"{x} = replicate (length (b .{x})) 0" if x == part else f"{x} = b .{x}" for x in ("codes", "costs", "queue", "store"))
+BUFFERS = ("codes", "costs", "values", "queue", "store")
+for part in BUFFERS:
+    new = "; ".join(f"{x} = replicate (length (b .{x})) 0" if x == part else f"{x} = b .{x}" for x in BUFFERS)
     change(f"a refusal zeroes the {part}", "Calls", REFUSING, f"refusing b r = record {{ answer = refused r; after = record {{ {new} }}; struck = false }}")
-change("a refusal zeroes the queue, the author's only", "Calls", "| Read.refused n ↦ refusing b (byAuthor n)", "| Read.refused n ↦ refusing (record { codes = b .codes; costs = b .costs; queue = replicate (length (b .queue)) 0; store = b .store }) (byAuthor n)")
-change("a refusal zeroes the queue, the host's only", "Calls", "| some n ↦ refusing b (byHost n)", "| some n ↦ refusing (record { codes = b .codes; costs = b .costs; queue = replicate (length (b .queue)) 0; store = b .store }) (byHost n)")
+change("a refusal zeroes the queue, the author's only", "Calls", "| Read.refused n ↦ refusing b (byAuthor n)", "| Read.refused n ↦ refusing (record { codes = b .codes; costs = b .costs; values = b .values; queue = replicate (length (b .queue)) 0; store = b .store }) (byAuthor n)")
+change("a refusal zeroes the queue, the host's only", "Calls", "| some n ↦ refusing b (byHost n)", "| some n ↦ refusing (record { codes = b .codes; costs = b .costs; values = b .values; queue = replicate (length (b .queue)) 0; store = b .store }) (byHost n)")
 change("a refusal strikes", "Calls", REFUSING, REFUSING.replace("false", "true"))
 change("the host's refusal blamed on the author", "Calls", "| some n ↦ refusing b (byHost n)", "| some n ↦ refusing b (byAuthor n)")
 change("the author's refusal blamed on the host", "Calls", "| Read.refused n ↦ refusing b (byAuthor n)", "| Read.refused n ↦ refusing b (byHost n)")
@@ -118,7 +179,8 @@ EXREF = "exportedOf result b (refused r) = record { returned = refusalNumber r; 
 change("export: a refusal returned as 0", "Calls", EXREF, EXREF.replace("refusalNumber r", "0"))
 change("export: a refusal writes its number", "Calls", EXREF, EXREF.replace("result = result", "result = filled (refusalNumber r ∷ []) result"))
 change("export: a refusal writes zeros", "Calls", EXREF, EXREF.replace("result = result", "result = replicate (length result) 0"))
-change("export: a refusal zeroes the queue", "Calls", EXREF, EXREF.replace("after = b", "after = record { codes = b .codes; costs = b .costs; queue = replicate (length (b .queue)) 0; store = b .store }"))
+change("export: a refusal zeroes the queue", "Calls", EXREF, EXREF.replace("after = b", "after = record { codes = b .codes; costs = b .costs; values = b .values; queue = replicate (length (b .queue)) 0; store = b .store }"))
+change("export: a refusal zeroes the values", "Calls", EXREF, EXREF.replace("after = b", "after = record { codes = b .codes; costs = b .costs; values = replicate (length (b .values)) 0; queue = b .queue; store = b .store }"))
 EXRAN = "exportedOf result b (answered (ran e c)) = record { returned = 0; after = b; result = filled (resultWords e c) result }"
 change("export: the ending returned", "Calls", EXRAN, EXRAN.replace("returned = 0", "returned = endingNumber e"))
 change("export: zeros beyond the six", "Calls", EXRAN, EXRAN.replace("(resultWords e c) result", "(resultWords e c) (replicate (length result) 0)"))
@@ -129,11 +191,36 @@ change("export: seven words wanted", "Calls", "(ltb (length result) 6) in", "(lt
 change("export: any result accepted", "Calls", "(ltb (length result) 6) in", "false in")
 change("export: buffers as lent", "Calls", "exportedOf result (called .after) (called .answer)", "exportedOf result b (called .answer)")
 change("test export: consistent and inconsistent swapped", "Calls", "testWords (consistent f t) = 1 ∷", "testWords (consistent f t) = 2 ∷", "testWords (inconsistent t) = 2 ∷", "testWords (inconsistent t) = 1 ∷")
-change("test export: a refusal returned as 0", "Calls", "testWritten result (refused r) = (refusalNumber r, result)", "testWritten result (refused r) = (0, result)")
-change("test export: a refusal writes", "Calls", "testWritten result (refused r) = (refusalNumber r, result)", "testWritten result (refused r) = (refusalNumber r, filled (0 ∷ []) result)")
-change("test export: words beyond cut", "Calls", "testWritten result (answered e) = (0, filled (testWords e) result)", "testWritten result (answered e) = (0, testWords e)")
-change("test export: one word suffices", "Calls", "elim (ltb (length result) 2) [ true ↦ (2, result)", "elim (ltb (length result) 1) [ true ↦ (2, result)")
-change("test export: three words wanted", "Calls", "elim (ltb (length result) 2) [ true ↦ (2, result)", "elim (ltb (length result) 3) [ true ↦ (2, result)")
+TESTREF = "testWritten shown result (refused r) = (refusalNumber r, shown, result)"
+change("test export: a refusal returned as 0", "Calls", TESTREF, TESTREF.replace("refusalNumber r", "0"))
+change("test export: a refusal writes", "Calls", TESTREF, TESTREF.replace(", result)", ", filled (0 ∷ []) result)"))
+change("test export: a refusal shows zeros", "Calls", TESTREF, TESTREF.replace(", shown,", ", replicate stateBytes 0,"))
+change("test export: the host's refusal shows zeros", "Calls", TESTREF, TESTREF.replace("refused r", "refused (byAuthor n)").replace("refusalNumber r", "n") + "\n" + TESTREF.replace("refused r", "refused (byHost n)").replace("refusalNumber r", "n").replace(", shown,", ", replicate stateBytes 0,"))
+change("test export: the author's refusal shows zeros", "Calls", TESTREF, TESTREF.replace("refused r", "refused (byHost n)").replace("refusalNumber r", "n") + "\n" + TESTREF.replace("refused r", "refused (byAuthor n)").replace("refusalNumber r", "n").replace(", shown,", ", replicate stateBytes 0,"))
+change("test export: a refusal shows its number", "Calls", TESTREF, TESTREF.replace(", shown,", ", filled (refusalNumber r ∷ []) shown,"))
+TESTANS = "testWritten shown result (answered e) = (0, shownBy e, filled (testWords e) result)"
+change("test export: words beyond cut", "Calls", TESTANS, TESTANS.replace("filled (testWords e) result", "testWords e"))
+change("test export: nothing shown", "Calls", TESTANS, TESTANS.replace("shownBy e", "shown"))
+change("test export: zeros shown", "Calls", TESTANS, TESTANS.replace("shownBy e", "replicate stateBytes 0"))
+change("test export: values shown, the rest as lent", "Calls", TESTANS, TESTANS.replace("answered e", "answered (consistent f t)").replace("shownBy e", "filled f shown").replace("testWords e", "testWords (consistent f t)") + "".join("\n" + TESTANS.replace("answered e", f"answered ({e})").replace("shownBy e", f"shownBy ({e})").replace("testWords e", f"testWords ({e})") for e in ("inconsistent t", "Tested.spent t")))
+for left in ("inconsistent t", "Tested.spent t"):
+    new = [TESTANS.replace("answered e", f"answered ({e})").replace("shownBy e", "shown" if e == left else f"shownBy ({e})").replace("testWords e", f"testWords ({e})") for e in ("consistent f t", "inconsistent t", "Tested.spent t")]
+    change(f"test export: bytes as lent after {left}", "Calls", TESTANS, "\n".join(new))
+TESTEXPORT = """    elim (ltb (length result) 2) [
+      | true ↦ (2, shown, result)
+      | false ↦ testWritten shown result (testCall sheet mask values limit)
+    ]
+"""
+change("test export: one word suffices", "Calls", TESTEXPORT, TESTEXPORT.replace("(length result) 2", "(length result) 1"))
+change("test export: three words wanted", "Calls", TESTEXPORT, TESTEXPORT.replace("(length result) 2", "(length result) 3"))
+change("test export: 2 shows zeros", "Calls", TESTEXPORT, TESTEXPORT.replace("(2, shown, result)", "(2, replicate stateBytes 0, result)"))
+change("test export: 2 writes zeros", "Calls", TESTEXPORT, TESTEXPORT.replace("(2, shown, result)", "(2, shown, replicate (length result) 0)"))
+change("test export: 2 shows the values", "Calls", TESTEXPORT, TESTEXPORT.replace("(2, shown, result)", "elim (testCall sheet mask values limit) [ refused r ↦ (2, shown, result) | answered e ↦ (2, shownBy e, result) ]"))
+change("test export: the sheet before the buffer", "Calls", TESTEXPORT, """    elim (testCall sheet mask values limit) [
+      | refused r ↦ testWritten shown result (refused r)
+      | answered e ↦ elim (ltb (length result) 2) [ true ↦ (2, shown, result) | false ↦ testWritten shown result (answered e) ]
+    ]
+""")
 change("reduce export: none and conflict swapped", "Calls", "reduceWords (nothing t) = 1 ∷", "reduceWords (nothing t) = 2 ∷", "reduceWords (reduced (conflict c t)) = 2 ∷", "reduceWords (reduced (conflict c t)) = 1 ∷")
 change("reduce export: none writes zeros", "Calls", "conflictWords (nothing t) = []", "conflictWords (nothing t) = 0 ∷ 0 ∷ []")
 change("reduce export: spent writes zeros", "Calls", "conflictWords (reduced (Reduced.spent t)) = []", "conflictWords (reduced (Reduced.spent t)) = 0 ∷ 0 ∷ []")
@@ -141,4 +228,3 @@ change("reduce export: a refusal returned as 0", "Calls", "reduceWritten found r
 change("reduce export: a short conflict accepted", "Calls", "elim (ltb (length found) 2 || ltb (length result) 2) [", "elim (ltb (length result) 2) [")
 change("reduce export: a short result accepted", "Calls", "elim (ltb (length found) 2 || ltb (length result) 2) [", "elim (ltb (length found) 2) [")
 change("reduce export: three words wanted", "Calls", "elim (ltb (length found) 2 || ltb (length result) 2) [", "elim (ltb (length found) 3 || ltb (length result) 3) [")
-change("test export: the sheet before the buffer", "Calls", "elim (ltb (length result) 2) [ true ↦ (2, result) | false ↦ testWritten result (testCall sheet mask values limit) ]", "elim (testCall sheet mask values limit) [ refused r ↦ testWritten result (refused r) | answered e ↦ elim (ltb (length result) 2) [ true ↦ (2, result) | false ↦ testWritten result (answered e) ] ]")

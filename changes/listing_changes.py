@@ -65,6 +65,7 @@ change("queue: put behind", "Listing", "enqueueAll ns queue = placeAll ahead ns 
 change("leaveOff: those that do not manifest", "Listing", "keep (λ n. not (manifestsAny store n)) nodes", "keep (λ n. manifestsAny store n) nodes")
 change("leaveOff: none", "Listing", "keep (λ n. not (manifestsAny store n)) nodes", "nodes")
 LISTED = """  listed = s .listed ++ (f ∷ []);
+  shown = s .shown ++ (g ∷ []);
   tested = s .tested + 1;
   learned = s .learned;
   unkept = s .unkept;
@@ -73,6 +74,12 @@ change("listed: in front", "Listing", "listed = s .listed ++ (f ∷ []);", "list
 change("listed: test uncounted", "Listing", LISTED, LISTED.replace("s .tested + 1", "s .tested"))
 change("listed: trials forgotten", "Listing", LISTED, LISTED.replace("trials = t;", "trials = s .trials;"))
 change("listed: learned counted", "Listing", LISTED, LISTED.replace("s .learned;", "s .learned + 1;"))
+change("listed: nothing shown", "Listing", "  shown = s .shown ++ (g ∷ []);\n", "  shown = s .shown;\n")
+change("listed: shown in front", "Listing", "  shown = s .shown ++ (g ∷ []);\n", "  shown = g ∷ s .shown;\n")
+change("listed: shown in place of all", "Listing", "  shown = s .shown ++ (g ∷ []);\n", "  shown = g ∷ [];\n")
+change("listed: shown twice", "Listing", "  shown = s .shown ++ (g ∷ []);\n", "  shown = s .shown ++ (g ∷ g ∷ []);\n")
+change("listed: the state's own values shown", "Listing", "  shown = s .shown ++ (g ∷ []);\n", "  shown = s .shown ++ (f ∷ []);\n")
+SHOWN = "  shown = s .shown;\n"
 UNKEPT = """  tested = s .tested + 1;
   learned = s .learned;
   unkept = s .unkept + 1;
@@ -81,6 +88,8 @@ change("unkept: uncounted", "Listing", UNKEPT, UNKEPT.replace("s .unkept + 1", "
 change("unkept: test uncounted", "Listing", UNKEPT, UNKEPT.replace("s .tested + 1", "s .tested"))
 change("unkept: trials forgotten", "Listing", UNKEPT, UNKEPT.replace("trials = t;", "trials = s .trials;"))
 change("unkept: learned counted", "Listing", UNKEPT, UNKEPT.replace("s .learned;", "s .learned + 1;"))
+change("unkept: shown emptied", "Listing", SHOWN + UNKEPT, "  shown = [];\n" + UNKEPT)
+change("unkept: zeros shown", "Listing", SHOWN + UNKEPT, "  shown = s .shown ++ ([] ∷ []);\n" + UNKEPT)
 LEARNED = """  tested = s .tested + 1;
   learned = s .learned + 1;
   unkept = s .unkept;
@@ -94,16 +103,21 @@ change("learned: test uncounted", "Listing", LEARNED, LEARNED.replace("s .tested
 change("learned: uncounted", "Listing", LEARNED, LEARNED.replace("s .learned + 1", "s .learned"))
 change("learned: unkept counted", "Listing", LEARNED, LEARNED.replace("s .unkept;", "s .unkept + 1;"))
 change("learned: trials forgotten", "Listing", LEARNED, LEARNED.replace("trials = t;", "trials = s .trials;"))
+change("learned: shown emptied", "Listing", SHOWN + LEARNED, "  shown = [];\n" + LEARNED)
+change("learned: zeros shown", "Listing", SHOWN + LEARNED, "  shown = s .shown ++ ([] ∷ []);\n" + LEARNED)
 SPENT = """  tested = s .tested;
   learned = s .learned;
   unkept = s .unkept;
   trials = t;"""
+STORED = "  store = s .store;\n  listed = s .listed;\n" + SHOWN
 change("limit in step 7: trials forgotten", "Listing", SPENT, SPENT.replace("trials = t;", "trials = s .trials;"))
 change("limit in step 7: all trials forgotten", "Listing", SPENT, SPENT.replace("trials = t;", "trials = 0;"))
 change("limit in step 7: test counted", "Listing", SPENT, SPENT.replace("s .tested;", "s .tested + 1;"))
 change("limit in step 7: struck", "Listing", SPENT + "\n  struck = s .struck;", SPENT + "\n  struck = true;")
-change("limit in step 7: store emptied", "Listing", "  store = s .store;\n  listed = s .listed;\n" + SPENT, "  store = [];\n  listed = s .listed;\n" + SPENT)
-change("limit in step 7: list emptied", "Listing", "  store = s .store;\n  listed = s .listed;\n" + SPENT, "  store = s .store;\n  listed = [];\n" + SPENT)
+change("limit in step 7: store emptied", "Listing", STORED + SPENT, STORED.replace("s .store", "[]") + SPENT)
+change("limit in step 7: list emptied", "Listing", STORED + SPENT, STORED.replace("s .listed", "[]") + SPENT)
+change("limit in step 7: shown emptied", "Listing", SHOWN + SPENT, "  shown = [];\n" + SPENT)
+change("limit in step 7: zeros shown", "Listing", SHOWN + SPENT, "  shown = s .shown ++ ([] ∷ []);\n" + SPENT)
 RSPENT = """  tested = s .tested + 1;
   learned = s .learned;
   unkept = s .unkept;
@@ -114,8 +128,13 @@ change("limit in a reduction: learned counted", "Listing", RSPENT, RSPENT.replac
 change("limit in a reduction: unkept counted", "Listing", RSPENT, RSPENT.replace("s .unkept;", "s .unkept + 1;"))
 change("limit in a reduction: trials forgotten", "Listing", RSPENT, RSPENT.replace("trials = t;", "trials = s .trials;"))
 change("limit in a reduction: not struck", "Listing", RSPENT, RSPENT.replace("struck = true", "struck = false"))
-change("limit in a reduction: store emptied", "Listing", "  store = s .store;\n  listed = s .listed;\n" + RSPENT, "  store = [];\n  listed = s .listed;\n" + RSPENT)
-change("limit in a reduction: list emptied", "Listing", "  store = s .store;\n  listed = s .listed;\n" + RSPENT, "  store = s .store;\n  listed = [];\n" + RSPENT)
+change("limit in a reduction: store emptied", "Listing", STORED + RSPENT, STORED.replace("s .store", "[]") + RSPENT)
+change("limit in a reduction: list emptied", "Listing", STORED + RSPENT, STORED.replace("s .listed", "[]") + RSPENT)
+change("limit in a reduction: shown emptied", "Listing", SHOWN + RSPENT, "  shown = [];\n" + RSPENT)
+change("limit in a reduction: zeros shown", "Listing", SHOWN + RSPENT, "  shown = s .shown ++ ([] ∷ []);\n" + RSPENT)
+QUEUED = "  tested = s .tested;\n  learned = s .learned;\n  unkept = s .unkept;\n  trials = s .trials;\n"
+change("queued: shown emptied", "Listing", SHOWN + QUEUED, "  shown = [];\n" + QUEUED)
+change("queued: zeros shown", "Listing", SHOWN + QUEUED, "  shown = s .shown ++ ([] ∷ []);\n" + QUEUED)
 change("most tested one less", "Listing", "mostTested = 4294967295", "mostTested = 4294967294")
 change("most tested one more", "Listing", "mostTested = 4294967295", "mostTested = 4294967296")
 change("full: one early", "Listing", "elim (ltb entries (length rest + length others)) [", "elim (ltb entries (length rest + length others + 1)) [")
@@ -136,9 +155,11 @@ change("learn: trials of the reduction forgotten", "Listing", "| conflict c t′
 change("learn: spent in the reduction counts as unkept", "Listing", "| Reduced.spent t′ ↦ ended Ending.spent (spentInReduction s t′)", "| Reduced.spent t′ ↦ more (unkeptOne s rest t′)")
 change("learn: spent in the reduction as in the test", "Listing", "| Reduced.spent t′ ↦ ended Ending.spent (spentInReduction s t′)", "| Reduced.spent t′ ↦ ended Ending.spent (spentInTest s t′)")
 change("judge: trials afresh", "Listing", "elim (test p limit n (s .trials)) [", "elim (test p limit n 0) [")
-change("judge: consistent trials forgotten", "Listing", "| consistent f t ↦ more (listedOne s rest (valueList n) t)", "| consistent f t ↦ more (listedOne s rest (valueList n) (s .trials))")
-change("judge: lists all variables", "Listing", "| consistent f t ↦ more (listedOne s rest (valueList n) t)", "| consistent f t ↦ more (listedOne s rest f t)")
-change("judge: consistent ends the run", "Listing", "| consistent f t ↦ more (listedOne s rest (valueList n) t)", "| consistent f t ↦ ended enough (listedOne s rest (valueList n) t)")
+CONSISTENT = "| consistent g t ↦ more (listedOne s rest (valueList n) g t)"
+change("judge: consistent trials forgotten", "Listing", CONSISTENT, CONSISTENT.replace("g t)", "g (s .trials))"))
+change("judge: lists all variables", "Listing", CONSISTENT, CONSISTENT.replace("(valueList n) g", "g g"))
+change("judge: listed and shown swapped", "Listing", CONSISTENT, CONSISTENT.replace("(valueList n) g", "g (valueList n)"))
+change("judge: consistent ends the run", "Listing", CONSISTENT, CONSISTENT.replace("more", "ended enough"))
 change("judge: spent says full", "Listing", "| Tested.spent t ↦ ended Ending.spent (spentInTest s t)", "| Tested.spent t ↦ ended full (spentInTest s t)")
 change("judge: spent goes on", "Listing", "| Tested.spent t ↦ ended Ending.spent (spentInTest s t)", "| Tested.spent t ↦ more (queued (spentInTest s t) rest)")
 change("expand: conflicts unlooked", "Listing", "elim (firstUnresolved (s .store) n) [", "elim (firstUnresolved [] n) [")
@@ -153,10 +174,11 @@ change("k before the queue", "Listing", "step s = remove s (s .queue)", "step s 
 change("'all' whenever k are listed", "Listing", TAKEN, TAKEN.replace("ended enough", "ended all"))
 change("'all' with one node left", "Listing", TAKEN, TAKEN.replace("(n ∷ rest)", "(n ∷ [])").replace("s rest n", "s [] n").replace("ended enough", "ended all") + "\n  " + TAKEN.replace("(n ∷ rest)", "(n ∷ m ∷ rest)").replace("s rest n", "s (m ∷ rest) n"))
 change("k is not asked for", "Listing", TAKEN, "remove s (n ∷ rest) = expand s rest n")
-change("enough: empties the store", "Listing", "[ false ↦ ended enough s |", "[ false ↦ ended enough (record { queue = s .queue; store = []; listed = s .listed; tested = s .tested; learned = s .learned; unkept = s .unkept; trials = s .trials; struck = s .struck }) |")
+change("enough: empties the store", "Listing", "[ false ↦ ended enough s |", "[ false ↦ ended enough (record { queue = s .queue; store = []; listed = s .listed; shown = s .shown; tested = s .tested; learned = s .learned; unkept = s .unkept; trials = s .trials; struck = s .struck }) |")
 change("run: one step fewer", "Listing", "enoughSteps domains = suc (weight domains (unassigned domains))", "enoughSteps domains = weight domains (unassigned domains)")
 change("run: weight without the node", "Listing", "weight (s ∷ ss) (none ∷ n) = suc s * weight ss n", "weight (s ∷ ss) (none ∷ n) = s * weight ss n")
 change("start: survivors forgotten", "Listing", "  store = survivors;", "  store = [];")
+change("start: a state of zeros shown", "Listing", "  shown = [];\n", "  shown = [] ∷ [];\n")
 change("start: trials forgotten", "Listing", "  trials = used;", "  trials = 0;")
 change("start: tested from the offers", "Listing", "  tested = 0;\n", "  tested = length survivors;\n")
 change("start: learned from the offers", "Listing", "  learned = 0;\n", "  learned = length survivors;\n")

@@ -31,3 +31,10 @@ change("a store of 63 entries", "Text", "storeWords = 128", "storeWords = 126")
 change("a queue of 4,095 entries", "Text", "queueWords = 8192", "queueWords = 8190")
 change("another limit", "Text", "trialLimit = 1000000", "trialLimit = 100000")
 change("an entry held", "Text", "programBuffers 0 trialLimit", "programBuffers 1 trialLimit")
+VALUES = "values = replicate (stateBytes * wantedStates) 0;"
+NAT = "use Prim.Native.Nat.{ℕ, _+_, _*_}", "use Prim.Native.Nat.{ℕ, _+_, _*_, _-_}"
+change("values a byte short", "Text", VALUES, VALUES.replace("stateBytes * wantedStates", "stateBytes * wantedStates - 1"), *NAT)
+change("values of fifteen states", "Text", VALUES, VALUES.replace("wantedStates", "(wantedStates - 1)"), *NAT)
+change("values of seventeen states", "Text", VALUES, VALUES.replace("wantedStates", "(wantedStates + 1)"))
+change("values a byte long", "Text", VALUES, VALUES.replace("stateBytes * wantedStates", "stateBytes * wantedStates + 1"))
+change("values a byte a state", "Text", VALUES, VALUES.replace("stateBytes * wantedStates", "wantedStates"))

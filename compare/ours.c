@@ -16,6 +16,7 @@ static uint8_t sheet[LEADING_SHEET_BYTES_MOST + 1];
 static uint64_t codes[LEADING_K_MOST], queue[LEADING_QUEUE_WORDS(4096)];
 static uint64_t store[LEADING_STORE_WORDS(64)];
 static uint32_t costs[LEADING_K_MOST], result[LEADING_RESULT_WORDS];
+static uint8_t values[LEADING_VALUES_BYTES(LEADING_K_MOST)];
 
 static double now(void)
 {
@@ -26,9 +27,10 @@ static double now(void)
 
 static uint32_t call(size_t length, uint32_t k)
 {
-    return leading_list(sheet, length, codes, k, costs, k, queue,
-                        LEADING_QUEUE_WORDS(4096), store, LEADING_STORE_WORDS(64),
-                        result, LEADING_RESULT_WORDS, k, 0, UINT32_MAX);
+    return leading_list(sheet, length, codes, k, costs, k, values,
+                        LEADING_VALUES_BYTES(k), queue, LEADING_QUEUE_WORDS(4096),
+                        store, LEADING_STORE_WORDS(64), result, LEADING_RESULT_WORDS,
+                        k, 0, UINT32_MAX);
 }
 
 static int by_size(const void *a, const void *b)

@@ -1,6 +1,6 @@
 """Plants as text with names, and as sheets.
 
-    python3 examples/plant_text.py list FILE.plant [-k STATES] [--limit TRIALS]
+    python3 examples/plant_text.py list FILE.plant [-k STATES] [--limit TRIALS] [-v]
     python3 examples/plant_text.py sheet FILE.plant -o FILE.sheet
     python3 examples/plant_text.py text FILE.sheet -o FILE.plant
     python3 examples/plant_text.py tables FILE.plant
@@ -12,7 +12,8 @@ program over it and names what that prints. `sheet` writes the sheet of a text.
 `text` writes a text of a sheet, with made-up names (p0, h0, s0). `tables` prints
 the tables of a text as leading_tables takes them. `names` reads what the host or
 the program `leading` printed, names in each line the parts that are not in their
-first state, and says in words what the ending means, and the conflicts. `check` holds
+first state, below it the values of the hidden variables where the host was asked for
+them (-v), and says in words what the ending means, and the conflicts. `check` holds
 FILE.sheet to FILE.plant, and takes both there and back. README.md says what a text
 looks like.
 
@@ -25,6 +26,7 @@ import codecs
 import re
 import subprocess
 import sys
+import textwrap
 from pathlib import Path
 
 ROOT = Path(__file__).resolve().parent.parent
@@ -56,10 +58,13 @@ SHOWN_MOST = 60  # characters of the text in a message
 MARKS = (codecs.BOM_UTF8, codecs.BOM_UTF16_LE, codecs.BOM_UTF16_BE)
 NOT_IN_TEXT = re.compile(rb"[\x00-\x08\x0b\x0c\x0e-\x1f\x7f]")
 SHEET_BEGINS = b"\x01"
-LISTED = re.compile(r"([0-9]+ ([0-9]{1,10})) ([0-9a-f]{16})")
+LISTED = re.compile(r"([0-9]+) ([0-9]{1,10}) ([0-9a-f]{16})")
 ENDED = re.compile(r"(all|enough|full|spent) ([0-9]+) tested .*")
+SHOWN = re.compile(r"hidden ([0-9]+)((?: [0-9]{1,10})*)")
 CONFLICT = re.compile(r"conflict ([0-9a-f]{16}) ([0-9a-f]{16})")
 ANOTHER = "is this the list of another plant?"
+HIDDEN = "  hidden: "
+WIDTH = 80  # of the lines of hidden values
 
 # What an ending means to an instructor.
 ENDINGS = {
@@ -305,27 +310,86 @@ def named(line, parts):
     if cost != int(match[2]):
         raise TextError(f"a state that costs {match[2]}, and {cost} in this plant; {ANOTHER}")
     words = [f"{name}={state}" for name, state, value, _ in states if value]
-    return f"{match[1]} {' '.join(words) or 'all in their first state'}"
+    return f"{match[1]} {cost} {' '.join(words) or 'all in their first state'}"
 
 
-def print_named(text, parts, source):
+def hidden_lines(hidden, numbers):
+    """The hidden values in names; an error where the plant has none such."""
+    if len(numbers) != len(hidden):
+        count = f"{len(numbers)} hidden values, and {len(hidden)} in this plant"
+        raise TextError(f"{count}; {ANOTHER}")
+    words = []
+    for (name, values), number in zip(hidden.items(), numbers):
+        if number >= len(values):
+            raise TextError(f"value {number} of '{name}', which has {len(values)}; {ANOTHER}")
+        words.append(f"{name}={values[number]}")
+    wraps = {"break_long_words": False, "break_on_hyphens": False}
+    indents = {"initial_indent": HIDDEN, "subsequent_indent": " " * len(HIDDEN)}
+    return textwrap.fill(" ".join(words) or "nothing", WIDTH, **indents, **wraps)
+
+
+def every_clause_holds(reader, code, numbers):
+    """With the parts' states by the code, and the hidden values of these numbers."""
+    values = {name: code >> (60 - 4 * place) & 15 for place, name in enumerate(reader.parts)}
+    values.update(zip(reader.hidden, numbers))
+    return all(
+        any((values[name] == value) != bool(sign) for name, sign, value in clause)
+        for clause in reader.clauses
+    )
+
+
+class Naming:
+    """A list put into names line by line. Hidden values come behind the list, and go
+    right below their state."""
+
+    def __init__(self, reader):
+        self.reader = reader
+        self.lines = []
+        self.states = {}  # rank of a state to its code and its place among the lines
+
+    def line(self, text):
+        values = SHOWN.fullmatch(text)
+        if values:
+            self.show(values[1], [int(word) for word in values[2].split()])
+            return
+        state = LISTED.fullmatch(text)
+        if state:
+            self.states[state[1]] = int(state[3], 16), len(self.lines)
+        self.lines.append(named(text, self.reader.parts))
+
+    def show(self, rank, numbers):
+        if rank not in self.states:
+            where = "which is not listed above, or has some already"
+            raise TextError(f"hidden values of state {short(rank)}, {where}")
+        code, place = self.states.pop(rank)
+        below = hidden_lines(self.reader.hidden, numbers)
+        if not every_clause_holds(self.reader, code, numbers):
+            raise TextError(f"hidden values that break a clause of this plant; {ANOTHER}")
+        self.lines[place] += f"\n{below}"
+
+
+def print_named(text, reader, source):
+    naming = Naming(reader)
     for number, line in enumerate(text.splitlines(), 1):
         try:
-            print(named(line, parts))
+            naming.line(line)
         except TextError as error:
             raise TextError(f"{source}:{number}: {error}") from None
+    for line in naming.lines:
+        print(line)
 
 
-def list_states(path, host, k, limit):
+def list_states(path, host, words):
     """The named list of a text by the host program; its exit status."""
     reader = parse(read_text(path), path)
-    command = [str(host), "-c", "-k", str(k), "-l", str(limit)]
+    command = [str(host), "-c", "-k", str(words.k), "-l", str(words.limit)]
+    command += ["-v"] if words.hidden else []
     try:
         done = subprocess.run(command, input=encode(reader.plant()), stdout=subprocess.PIPE)
     except OSError as error:
         cure = "'make host' makes it, and --host says where it is"
         raise TextError(f"{host}: no host program ({error.strerror}); {cure}") from None
-    print_named(decoded(done.stdout, host), reader.parts, host)
+    print_named(decoded(done.stdout, host), reader, host)
     return done.returncode
 
 
@@ -364,7 +428,7 @@ def write(data, path):
 def run(words):
     first = words.files[0]
     if words.command == "list":
-        return list_states(first, words.host, words.k, words.limit)
+        return list_states(first, words.host, words)
     if words.command == "sheet":
         write(to_sheet(read_text(first), first), words.output)
     elif words.command == "text":
@@ -372,9 +436,9 @@ def run(words):
     elif words.command == "tables":
         write(to_tables(parse(read_text(first), first).plant()).encode(), None)
     elif words.command == "names":
-        parts = parse(read_text(first), first).parts
+        reader = parse(read_text(first), first)
         lines = decoded(sys.stdin.buffer.read(TEXT_MOST + 1), "standard input")
-        print_named(lines, parts, "standard input")
+        print_named(lines, reader, "standard input")
     else:
         for path in words.files:
             check(path)
@@ -395,6 +459,7 @@ def arguments(words):
     listing = of["list"].add_argument
     listing("-k", type=int, default=16, metavar="STATES", help="to list at most (16)")
     listing("--limit", type=int, default=1_000_000, metavar="TRIALS", help="at most (1000000)")
+    listing("-v", dest="hidden", action="store_true", help="show hidden values too")
     listing("--host", default=HOST, metavar="PROGRAM", help="(target/host/leading_host)")
     return parser.parse_args(words)
 

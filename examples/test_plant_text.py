@@ -9,8 +9,18 @@ from pathlib import Path
 
 sys.dont_write_bytecode = True
 
-from plant_text import TextError, decoded, main, named, parse, to_sheet, to_text  # noqa: E402
+from plant_text import (  # noqa: E402
+    TextError,
+    decoded,
+    main,
+    named,
+    parse,
+    print_named,
+    to_sheet,
+    to_text,
+)
 
+OTHER = "is this the list of another plant?"
 TOP = "part lever: ahead 0, idle 3\nhidden shaft: still, turning\n"
 EXPECTED = "expected 'name = state' or 'name != state'"
 
@@ -76,6 +86,57 @@ OF_OTHERS = [
 ]
 
 
+# A plant with hidden variables, what the host prints of it with -v and -c, and that with names.
+SHAFTS = """part lever: low 0, high 2
+hidden shaft: still, slow, quick, wild
+hidden lamp: dark, lit
+lever != high or shaft = quick
+shaft != still or lamp = lit
+lever = low or lever = high
+"""
+LISTING = """1 0 0000000000000000
+2 2 1000000000000000
+all 2 tested 2 learned 1 unkept 0 trials 9
+hidden 1 0 1
+hidden 2 2 0
+conflict 8000000000000000 1000000000000000
+"""
+NAMED = """1 0 all in their first state
+  hidden: shaft=still lamp=lit
+2 2 lever=high
+  hidden: shaft=quick lamp=dark
+all 2 tested 2 learned 1 unkept 0 trials 9
+no other explanation
+lever high: impossible
+"""
+
+NOT_LISTED = "which is not listed above, or has some already"
+
+# A line of hidden values behind that list's others, and the message.
+NOT_SHOWN = [
+    ("hidden 3 0 1", "hidden values of state 3, " + NOT_LISTED),
+    ("hidden 0 0 1", "hidden values of state 0, " + NOT_LISTED),
+    ("hidden 1 0", "1 hidden values, and 2 in this plant; " + OTHER),
+    ("hidden 1", "0 hidden values, and 2 in this plant; " + OTHER),
+    ("hidden 1 0 1 0", "3 hidden values, and 2 in this plant; " + OTHER),
+    ("hidden 1 0 2", "value 2 of 'lamp', which has 2; " + OTHER),
+    ("hidden 2 4 0", "value 4 of 'shaft', which has 4; " + OTHER),
+    ("hidden 1 0 0", "hidden values that break a clause of this plant; " + OTHER),
+    ("hidden 2 3 0", "hidden values that break a clause of this plant; " + OTHER),
+]
+
+
+def all_named(text, plant):
+    said = io.StringIO()
+    with contextlib.redirect_stdout(said):
+        print_named(text, parse(plant), "it")
+    return said.getvalue()
+
+
+def without(text, start):
+    return "".join(line for line in text.splitlines(True) if not line.startswith(start))
+
+
 class PlantText(unittest.TestCase):
     def test_errors(self):
         for text, message in ERRORS:
@@ -134,8 +195,38 @@ class PlantText(unittest.TestCase):
         for line, message in OF_OTHERS:
             with self.subTest(line), self.assertRaises(TextError) as caught:
                 named(line, parse(TOP).parts)
-            expected = message + "; is this the list of another plant?"
-            self.assertEqual(str(caught.exception), expected)
+            self.assertEqual(str(caught.exception), f"{message}; {OTHER}")
+
+    def test_hidden(self):
+        """Below each state, with the conflicts and without; and lists that have none."""
+        self.assertEqual(all_named(LISTING, SHAFTS), NAMED)
+        self.assertEqual(all_named(without(LISTING, "conflict"), SHAFTS), without(NAMED, "lever"))
+        self.assertEqual(all_named(without(LISTING, "hidden"), SHAFTS), without(NAMED, "  hidden"))
+        none = "1 0 0000000000000000\nhidden 1\n"
+        expected = "1 0 all in their first state\n  hidden: nothing\n"
+        self.assertEqual(all_named(none, "part lever: low 0\n"), expected)
+
+    def test_hidden_of_others(self):
+        states = without(LISTING, "hidden")
+        for line, message in NOT_SHOWN:
+            with self.subTest(line), self.assertRaises(TextError) as caught:
+                all_named(states + line, SHAFTS)
+            self.assertEqual(str(caught.exception), "it:5: " + message)
+        with self.assertRaises(TextError) as caught:
+            all_named(LISTING + "hidden 2 2 0", SHAFTS)
+        self.assertEqual(str(caught.exception), "it:7: hidden values of state 2, " + NOT_LISTED)
+
+    def test_many_hidden(self):
+        """A name and its value stay on one line, whatever is in the name."""
+        names = [f"shaft-{n}-of_the_rear" for n in range(30)] + ["w" * 90]
+        plant = "part lever: low 0\n" + "".join(f"hidden {name}: s0, s-1\n" for name in names)
+        lines = all_named("1 0 0000000000000000\nhidden 1" + " 1" * 31, plant).splitlines()
+        self.assertEqual(lines[0], "1 0 all in their first state")
+        self.assertEqual(lines[1][:10], "  hidden: ")
+        self.assertEqual({line[:10] for line in lines[2:]}, {" " * 10})
+        self.assertTrue(all(len(line) <= 80 for line in lines[1:-1]))
+        words = " ".join(line[10:] for line in lines[1:]).split()
+        self.assertEqual(words, [f"{name}=s-1" for name in names])
 
     def test_hints(self):
         for clause, message in HINTS:

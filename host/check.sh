@@ -114,9 +114,16 @@ exercise() {
     local one=$'1 3 0100000000000000\nenough 1 tested 2 learned 1 unkept 0 trials 13'
     local small=examples/small.sheet
     local conflict='conflict c000000000000000 0000000000000000'
+    local nothing_hidden=$'1 0 0000000000000000\n2 2 1000000000000000
+all 2 tested 2 learned 0 unkept 0 trials 0\nhidden 1\nhidden 2'
     prints "$host" "$one" -k 1 $small
     prints "$host" "$(cat examples/small.list)" -k 3 $small
     prints "$host" "$one"$'\n'"$conflict" -k 1 -c $small
+    prints "$host" "$one"$'\n''hidden 1 0' -v -k 1 $small
+    prints "$host" "$one"$'\n''hidden 1 0'$'\n'"$conflict" -c -k 1 -v $small
+    prints "$host" 'full 0 tested 0 learned 0 unkept 0 trials 0' -v -q 2 $small
+    prints "$host" 'refused 1' -v -k 0 $small
+    printf '\x01\x08\0\0\x80\0\0\x01\0' | prints "$host" "$nothing_hidden" -v
     prints "$host" "${one/learned 1 unkept 0 trials 13/learned 0 unkept 1 trials 3}" \
         -c -k 1 -s 0 $small
     prints "$host" 'full 0 tested 0 learned 0 unkept 0 trials 0' -q 2 $small
@@ -289,14 +296,19 @@ lists() {
     printf '%s\n' "$expected" | cmp - "$out/printed"
 }
 
+# $1 a README, $2 a mark in it: what is printed there, below the command and a line
+in_readme() {
+    block "$1" "<!-- $2 -->" '<!-- end -->' 1 | sed '1,2d;s/^    //'
+}
+
 # by the host that is left in target/host
 check_named() {
     local none=$out/none.plant status=0 said name
-    said=$(block examples/README.md '<!-- list -->' '<!-- end -->' 1 | sed '1,2d;s/^    //')
+    said=$(in_readme examples/README.md list)
     lists "$said" examples/small.plant
     lists "$said" -k 3 examples/small.plant
-    lists "$(block examples/README.md '<!-- enough -->' '<!-- end -->' 1 | sed '1,2d;s/^    //')" \
-        -k 2 examples/small.plant
+    lists "$(in_readme examples/README.md enough)" -k 2 examples/small.plant
+    lists "$(in_readme examples/README.md hidden)" -v examples/small.plant
     lists $'spent 0 tested 1 learned 0 unkept 0 trials 5\nthere may be more: the limit struck' \
         --limit 5 examples/small.plant
     printf 'part lever: ahead 0, idle 3\nnever\n' > "$none"
@@ -315,6 +327,30 @@ check_named() {
         < examples/driveline.list > "$out/printed" 2> "$out/reason" || fail "names of another plant"
     grep -q 'of another plant?' "$out/reason" || fail "names: $(cat "$out/reason")"
     say "from a text to a named list"
+}
+
+# $1 an example, further words for the host that is left in target/host
+by_name() {
+    local name=$1
+    shift
+    "$out/leading_host" "$@" "examples/$name.sheet" |
+        python3 -B examples/plant_text.py names "examples/$name.plant"
+}
+
+# hidden values below each state, which plant_text.py holds to the text's clauses; all else as without them
+check_hidden() {
+    local name states
+    for name in "${examples[@]}"; do
+        by_name "$name" -c > "$out/printed"
+        states=$(grep -c '^[0-9]' "$out/printed")
+        by_name "$name" -c -v > "$out/hidden"
+        grep -v '^  ' "$out/hidden" | cmp - "$out/printed"
+        [ "$(grep -c '^  hidden: ' "$out/hidden")" = "$states" ] || fail "$name: not each state's hidden values"
+        [ "$(grep -A 1 '^[0-9]' "$out/hidden" | grep -c '^  hidden: ')" = "$states" ] ||
+            fail "$name: hidden values not below their state"
+    done
+    by_name driveline -v -k 2 | cmp - <(in_readme README.md hidden)
+    say "hidden values of ${#examples[@]} examples, below their states"
 }
 
 # $1 a status: what `make run` shows of a prover that ends so, and that its log is whole
@@ -358,3 +394,4 @@ check_installed "$cc"
 cp "$out/$(basename "$cc")"/leading_{host,tables} "$out"
 check_tables
 check_named
+check_hidden

@@ -1,7 +1,8 @@
 /* Lists the leading states of a plant sheet: a small host over leading.h.
  *
- * Standard output is what the program `leading` prints, and with -c the conflicts;
- * the reason of a refusal goes to standard error. Exit status: 0 a list, 1 refused, 2 bad usage.
+ * Standard output is what the program `leading` prints, with -v then the values of the
+ * hidden variables, and with -c the conflicts; the reason of a refusal goes to standard
+ * error. Exit status: 0 a list, 1 refused, 2 bad usage.
  */
 #include "leading.h"
 
@@ -12,7 +13,8 @@
 #include <string.h>
 
 static const char usage[] =
-    "usage: leading_host [-k STATES] [-q ENTRIES] [-s ENTRIES] [-l TRIALS] [-c] [FILE]\n"
+    "usage: leading_host [-k STATES] [-q ENTRIES] [-s ENTRIES] [-l TRIALS] [-v] [-c]\n"
+    "                    [FILE]\n"
     "  lists the leading states of the plant sheet in FILE or standard input\n"
     "  -k  states to list at most (16); a run that ends 'all' has listed every state\n"
     "      that fits, after 'enough', 'full' and 'spent' there may be more\n"
@@ -20,6 +22,8 @@ static const char usage[] =
     "  -s  conflict store entries (64); with 0, or with a store that gets full, a run\n"
     "      may take hours, for -l bounds trials only and there are tests without any\n"
     "  -l  trials at most (1000000)\n"
+    "  -v  then the values of the hidden variables, a line for each state listed, by\n"
+    "      its place in the list: hidden PLACE VALUE VALUE ..\n"
     "  -c  then the conflicts learned, a line each: conflict MASK VALUES\n"
     "  -h, --help  this text\n"
     "A sheet is made of a plant text by examples/plant_text.py, which can also name\n"
@@ -33,6 +37,7 @@ static const char usage[] =
 
 struct settings {
     uint32_t k, queue, store, limit;
+    int hidden;       /* whether the hidden variables' values are printed */
     int conflicts;    /* whether they are printed */
     const char *path; /* NULL: standard input */
 };
@@ -40,6 +45,7 @@ struct settings {
 struct buffers {
     uint64_t *codes, *queue, *store;
     uint32_t *costs;
+    uint8_t *values;
 };
 
 static int fail(const char *what, const char *which)
@@ -79,6 +85,8 @@ static int arguments(struct settings *s, int argc, char **argv)
         uint32_t *to = place(s, word);
         if (!strcmp(word, "-c"))
             s->conflicts = 1;
+        else if (!strcmp(word, "-v"))
+            s->hidden = 1;
         else if (word[0] != '-' && s->path == NULL)
             s->path = word;
         else if (word[0] != '-')
@@ -127,9 +135,10 @@ static int lend(struct buffers *b, const struct settings *s)
 {
     b->codes = calloc((size_t)s->k + 1, sizeof *b->codes);
     b->costs = calloc((size_t)s->k + 1, sizeof *b->costs);
+    b->values = calloc(LEADING_VALUES_BYTES(s->k) + 1, sizeof *b->values);
     b->queue = calloc(LEADING_QUEUE_WORDS(s->queue) + 1, sizeof *b->queue);
     b->store = calloc(LEADING_STORE_WORDS(s->store) + 1, sizeof *b->store);
-    if (b->codes && b->costs && b->queue && b->store)
+    if (b->codes && b->costs && b->values && b->queue && b->store)
         return 1;
     return fail("buffers", "no memory");
 }
@@ -138,6 +147,7 @@ static void give_back(struct buffers *b)
 {
     free(b->codes);
     free(b->costs);
+    free(b->values);
     free(b->queue);
     free(b->store);
 }
@@ -151,6 +161,17 @@ static void print_run(const struct buffers *b, const uint32_t *result)
            leading_ending_text(result[LEADING_ENDING]), result[LEADING_LISTED],
            result[LEADING_TESTED], result[LEADING_LEARNED], result[LEADING_UNKEPT],
            result[LEADING_TRIALS]);
+}
+
+static void print_hidden(const uint8_t *sheet, const uint8_t *values, uint32_t listed)
+{
+    unsigned first = LEADING_PARTS(sheet), end = first + LEADING_HIDDEN(sheet);
+    for (uint32_t i = 0; i < listed; i++) {
+        printf("hidden %" PRIu32, i + 1);
+        for (unsigned variable = first; variable < end; variable++)
+            printf(" %u", values[LEADING_VALUE_PLACE(i, variable)]);
+        printf("\n");
+    }
 }
 
 /* Nothing was offered, so the store has those learned. */
@@ -177,11 +198,14 @@ static uint32_t list(const struct settings *s, const uint8_t *sheet, size_t leng
 {
     uint32_t result[LEADING_RESULT_WORDS];
     uint32_t refused = leading_list(sheet, length, b->codes, s->k, b->costs, s->k,
+                                    b->values, LEADING_VALUES_BYTES(s->k),
                                     b->queue, LEADING_QUEUE_WORDS(s->queue),
                                     b->store, LEADING_STORE_WORDS(s->store),
                                     result, LEADING_RESULT_WORDS, s->k, 0, s->limit);
     if (refused == LEADING_OK) {
         print_run(b, result);
+        if (s->hidden)
+            print_hidden(sheet, b->values, result[LEADING_LISTED]);
         if (s->conflicts)
             print_conflicts(b->store, result[LEADING_LEARNED]);
     } else {
@@ -194,8 +218,8 @@ int main(int argc, char **argv)
 {
     /* One byte more than any sheet has: the sheet is too long, not cut. */
     static uint8_t sheet[LEADING_SHEET_BYTES_MOST + 1];
-    struct settings s = {16, 4096, 64, 1000000, 0, NULL};
-    struct buffers b = {NULL, NULL, NULL, NULL};
+    struct settings s = {16, 4096, 64, 1000000, 0, 0, NULL};
+    struct buffers b = {NULL, NULL, NULL, NULL, NULL};
     size_t length = 0;
 
     if (wants_help(argc, argv))

@@ -18,6 +18,7 @@ static ucontext_t caller, callee;
 static uint8_t sheet[LEADING_SHEET_BYTES_MOST];
 static size_t sheet_len;
 static uint64_t conflict[LEADING_CONFLICT_WORDS];
+static uint8_t values[LEADING_VALUES_BYTES(16)]; /* of a listing or, its first, of a test */
 static uint32_t result[LEADING_RESULT_WORDS];
 static bool meant; /* whether the last call went as it was meant to */
 
@@ -62,17 +63,22 @@ static void list(void)
     static uint64_t codes[16], queue[8192], store[128];
     static uint32_t costs[16];
     memset(store, 0, sizeof store);
-    meant = leading_list(sheet, sheet_len, codes, 16, costs, 16, queue, 8192, store, 128,
-                         result, LEADING_RESULT_WORDS, 16, 1, 1000000) == LEADING_OK &&
-            result[LEADING_ENDING] == LEADING_ALL && result[LEADING_LISTED] == 1;
+    values[LEADING_STATE_BYTES - 1] = 0;
+    meant = leading_list(sheet, sheet_len, codes, 16, costs, 16, values, sizeof values, queue,
+                         8192, store, 128, result, LEADING_RESULT_WORDS, 16, 1,
+                         1000000) == LEADING_OK &&
+            result[LEADING_ENDING] == LEADING_ALL && result[LEADING_LISTED] == 1 &&
+            values[LEADING_STATE_BYTES - 1] == 1;
 }
 
 /* The empty assignment: its test sets all variables. */
 static void test(void)
 {
-    meant = leading_test(sheet, sheet_len, 0, 0, 1000000, result, LEADING_ANSWER_WORDS) ==
-                LEADING_OK &&
-            result[LEADING_ANSWER] == LEADING_TEST_CONSISTENT;
+    values[LEADING_STATE_BYTES - 1] = 0;
+    meant = leading_test(sheet, sheet_len, 0, 0, 1000000, values, result,
+                         LEADING_ANSWER_WORDS) == LEADING_OK &&
+            result[LEADING_ANSWER] == LEADING_TEST_CONSISTENT &&
+            values[LEADING_STATE_BYTES - 1] == 1;
 }
 
 /* A conflict of one member: without it the test sets all variables. */

@@ -1,14 +1,16 @@
-/* leading.h against the runs P1 to P11 of the specification, tests and reductions
- * on the small plant, and each refusal: what is returned, and every word of every
- * buffer, those around them too. Then runs that offer what another learned, the
- * version, the texts and LEADING_PARTS.
+/* leading.h against the runs P1 to P11 of the specification and some with hidden
+ * values that are not 0, against tests and reductions, and each refusal: what is
+ * returned, and every word and byte of every buffer, those around them too. Then runs
+ * that offer what another learned, the version, the texts, LEADING_PARTS and
+ * LEADING_HIDDEN.
  */
 #include "leading.h"
 
 #include <stdio.h>
 #include <string.h>
 
-#define K_ROOM 20
+#define K_ROOM 4098
+#define VALUES_ROOM LEADING_VALUES_BYTES(K_ROOM)
 #define QUEUE_ROOM 8194
 #define STORE_ROOM 8194
 #define RESULT_ROOM 8
@@ -16,111 +18,184 @@
 #define JUNK 0x55
 #define JUNK64 UINT64_C(0x5555555555555555)
 #define JUNK32 UINT32_C(0x55555555)
+#define SHEET_ROOM 24
 #define UNCHANGED 99 /* a place beyond the sheet: nothing to change there */
 #define COUNT(array) (sizeof(array) / sizeof *(array))
 
-static const uint8_t small_plant[] = {
+static const uint8_t small_plant[SHEET_ROOM] = {
     0x01, 0x10, 0x20, 0x10, 0x80, 0x00, 0x00, 0x01, 0x88, 0x00,
     0x00, 0x00, 0x18, 0x98, 0x10, 0x06, 0x01, 0x04, 0x42, 0x00};
-static const uint64_t fitting[] = {
-    LEADING_CODE(0, 0) | LEADING_CODE(1, 1), LEADING_CODE(0, 1) | LEADING_CODE(1, 0),
-    LEADING_CODE(0, 1) | LEADING_CODE(1, 1)};
-static const uint32_t fitting_costs[] = {3, 3, 6};
 
-struct counts {
-    uint32_t k;
-    size_t codes, costs, queue, store, result, held;
+/* One part of two states, costs 0 and 2, and two hidden variables, of four values and
+ * of two. Part 0 in state 1 keeps variable 1 from its value 0, and no value of
+ * variable 2 goes with its value 1; part 0 in state 0 has variable 2 at 1. */
+static const uint8_t shafts_plant[SHEET_ROOM] = {
+    0x01, 0x08, 0x40, 0x20, 0x80, 0x00, 0x00, 0x01, 0x18, 0x90, 0x11, 0x06,
+    0x04, 0x0c, 0x42, 0x09, 0x03, 0x10, 0x80, 0x40, 0x40, 0x20, 0x80};
+
+/* The states that fit, in order, and the values of all variables. */
+#define STATES_MOST 4
+#define VARIABLES_MOST 3
+struct states {
+    uint64_t codes[STATES_MOST];
+    uint32_t costs[STATES_MOST];
+    uint8_t values[STATES_MOST][VARIABLES_MOST];
 };
-static const struct counts usual = {16, 16, 16, 8192, 128, 6, 0};
+static const struct states of_small = {
+    {LEADING_CODE(0, 0) | LEADING_CODE(1, 1), LEADING_CODE(0, 1) | LEADING_CODE(1, 0),
+     LEADING_CODE(0, 1) | LEADING_CODE(1, 1)},
+    {3, 3, 6},
+    {{0, 1, 0}, {1, 0, 0}, {1, 1, 0}}};
+static const struct states of_turning = {
+    {0, LEADING_CODE(1, 1), LEADING_CODE(0, 1), LEADING_CODE(0, 1) | LEADING_CODE(1, 1)},
+    {0, 3, 3, 6},
+    {{0, 0, 1}, {0, 1, 1}, {1, 0, 1}, {1, 1, 1}}};
+static const struct states of_shafts = {
+    {0, LEADING_CODE(0, 1)}, {0, 2}, {{0, 0, 1}, {1, 2, 0}}};
 
 struct change {
     size_t place;
     uint8_t byte;
 };
 
-#define BOTH (LEADING_MASK(0) | LEADING_MASK(1))
+/* A sheet: a plant's with two bytes changed, and so many bytes of it. */
+struct given {
+    const uint8_t *plant;
+    struct change first, second;
+    size_t length;
+};
+
+#define AS_IT_IS {small_plant, {UNCHANGED, 0}, {UNCHANGED, 0}, 20}
+#define EMPTY_CLAUSE {small_plant, {3, 0x18}, {UNCHANGED, 0}, 21}
+/* The second clause now is: the selector is not in state 1. */
+#define NEVER_ONE {small_plant, {18, 0x40}, {19, 0x88}, 20}
+/* The second clause now is: the drive has value 1. */
+#define TURNING {small_plant, {19, 0x08}, {UNCHANGED, 0}, 20}
+#define SHAFTS {shafts_plant, {UNCHANGED, 0}, {UNCHANGED, 0}, 23}
+#define NO_SHEET {small_plant, {UNCHANGED, 0}, {UNCHANGED, 0}, 0}
+
+#define SELECTOR LEADING_MASK(0)
+#define CLUTCH LEADING_MASK(1)
+#define BOTH (SELECTOR | CLUTCH)
+#define ZERO LEADING_CODE(0, 0)
+#define ONE LEADING_CODE(0, 1)
 #define BOTH_ONE (LEADING_CODE(0, 1) | LEADING_CODE(1, 1))
 
-/* Runs: what is asked, and the result words and the store's first mask after. */
+struct counts {
+    uint32_t k;
+    size_t codes, costs, values, queue, store, result, held;
+};
+static const struct counts usual = {16, 16, 16, 768, 8192, 128, 6, 0};
+static const struct counts short_values = {16, 16, 16, 767, 8192, 128, 6, 0};
+
+/* Runs: what is asked, the states of which it lists the first, and the result words
+ * and the store's first mask after. */
 static const struct run {
     const char *name;
+    struct given given;
     struct counts counts;
     uint64_t offer[2];
     uint32_t limit;
-    size_t empty_clauses;
+    const struct states *states;
     uint32_t result[LEADING_RESULT_WORDS];
     uint64_t mask;
 } runs[] = {
-    {"P1", {16, 16, 16, 8192, 128, 6, 0}, {0, 0}, 1000000, 0, {2, 3, 4, 1, 0, 15}, BOTH},
-    {"P2", {1, 1, 1, 8192, 128, 6, 0}, {0, 0}, 1000000, 0, {1, 1, 2, 1, 0, 13}, BOTH},
-    {"P3", {3, 4, 5, 8192, 128, 8, 0}, {0, 0}, 1000000, 0, {2, 3, 4, 1, 0, 15}, BOTH},
-    {"one fewer than P3", {2, 4, 5, 8192, 128, 8, 0}, {0, 0}, 1000000, 0, {1, 2, 3, 1, 0, 14},
-     BOTH},
-    {"one more than P3", {4, 4, 5, 8192, 128, 8, 0}, {0, 0}, 1000000, 0, {2, 3, 4, 1, 0, 15},
-     BOTH},
-    {"none fits, k 1", {1, 1, 1, 8192, 128, 6, 0}, {0, 0}, 1000000, 1, {2, 0, 1, 1, 0, 0}, 0},
-    {"P4 queue of 2", {16, 16, 16, 4, 128, 6, 0}, {0, 0}, 1000000, 0, {3, 0, 0, 0, 0, 0}, 0},
-    {"P4 queue of 3", {16, 16, 16, 6, 128, 6, 0}, {0, 0}, 1000000, 0, {2, 3, 4, 1, 0, 15}, BOTH},
-    {"P5 limit 14", {16, 16, 16, 8192, 128, 6, 0}, {0, 0}, 14, 0, {4, 2, 3, 1, 0, 14}, BOTH},
-    {"P5 limit 15", {16, 16, 16, 8192, 128, 6, 0}, {0, 0}, 15, 0, {2, 3, 4, 1, 0, 15}, BOTH},
-    {"P5 limit 5", {16, 16, 16, 8192, 128, 6, 0}, {0, 0}, 5, 0, {4, 0, 1, 0, 0, 5}, 0},
-    {"P6", {16, 16, 16, 8192, 128, 6, 1}, {BOTH, 0}, 1000000, 0, {2, 3, 3, 0, 0, 5}, BOTH},
-    {"P7", {16, 16, 16, 8192, 128, 6, 1}, {LEADING_MASK(0), LEADING_CODE(0, 1)}, 1000000, 0,
+    {"P1", AS_IT_IS, {16, 16, 16, 768, 8192, 128, 6, 0}, {0, 0}, 1000000, &of_small,
+     {2, 3, 4, 1, 0, 15}, BOTH},
+    {"P2", AS_IT_IS, {1, 1, 1, 48, 8192, 128, 6, 0}, {0, 0}, 1000000, &of_small,
+     {1, 1, 2, 1, 0, 13}, BOTH},
+    {"P3", AS_IT_IS, {3, 4, 5, 145, 8192, 128, 8, 0}, {0, 0}, 1000000, &of_small,
+     {2, 3, 4, 1, 0, 15}, BOTH},
+    {"one fewer than P3", AS_IT_IS, {2, 4, 5, 144, 8192, 128, 8, 0}, {0, 0}, 1000000, &of_small,
+     {1, 2, 3, 1, 0, 14}, BOTH},
+    {"one more than P3", AS_IT_IS, {4, 4, 5, 192, 8192, 128, 8, 0}, {0, 0}, 1000000, &of_small,
+     {2, 3, 4, 1, 0, 15}, BOTH},
+    {"the greatest k", AS_IT_IS, {4096, 4096, 4096, 196608, 8192, 128, 6, 0}, {0, 0}, 1000000,
+     &of_small, {2, 3, 4, 1, 0, 15}, BOTH},
+    {"the longest buffers", AS_IT_IS, {1, K_ROOM, K_ROOM, VALUES_ROOM, 8192, 8192, RESULT_ROOM, 0},
+     {0, 0}, 1000000, &of_small, {1, 1, 2, 1, 0, 13}, BOTH},
+    {"none fits, k 1", EMPTY_CLAUSE, {1, 1, 1, 48, 8192, 128, 6, 0}, {0, 0}, 1000000, &of_small,
+     {2, 0, 1, 1, 0, 0}, 0},
+    {"P4 queue of 2", AS_IT_IS, {16, 16, 16, 768, 4, 128, 6, 0}, {0, 0}, 1000000, &of_small,
+     {3, 0, 0, 0, 0, 0}, 0},
+    {"P4 queue of 3", AS_IT_IS, {16, 16, 16, 768, 6, 128, 6, 0}, {0, 0}, 1000000, &of_small,
+     {2, 3, 4, 1, 0, 15}, BOTH},
+    {"P5 limit 14", AS_IT_IS, {16, 16, 16, 768, 8192, 128, 6, 0}, {0, 0}, 14, &of_small,
+     {4, 2, 3, 1, 0, 14}, BOTH},
+    {"P5 limit 15", AS_IT_IS, {16, 16, 16, 768, 8192, 128, 6, 0}, {0, 0}, 15, &of_small,
+     {2, 3, 4, 1, 0, 15}, BOTH},
+    {"P5 limit 5", AS_IT_IS, {16, 16, 16, 768, 8192, 128, 6, 0}, {0, 0}, 5, &of_small,
+     {4, 0, 1, 0, 0, 5}, 0},
+    {"P6", AS_IT_IS, {16, 16, 16, 768, 8192, 128, 6, 1}, {BOTH, 0}, 1000000, &of_small,
+     {2, 3, 3, 0, 0, 5}, BOTH},
+    {"P7", AS_IT_IS, {16, 16, 16, 768, 8192, 128, 6, 1}, {SELECTOR, ONE}, 1000000, &of_small,
      {2, 3, 4, 1, 0, 17}, BOTH},
-    {"P8", {16, 16, 16, 8192, 128, 6, 0}, {0, 0}, 1000000, 1, {2, 0, 1, 1, 0, 0}, 0},
-    {"P9", {16, 16, 16, 8192, 0, 6, 0}, {0, 0}, 1000000, 1, {2, 0, 4, 0, 4, 0}, 0},
+    {"P8", EMPTY_CLAUSE, {16, 16, 16, 768, 8192, 128, 6, 0}, {0, 0}, 1000000, &of_small,
+     {2, 0, 1, 1, 0, 0}, 0},
+    {"P9", EMPTY_CLAUSE, {16, 16, 16, 768, 8192, 0, 6, 0}, {0, 0}, 1000000, &of_small,
+     {2, 0, 4, 0, 4, 0}, 0},
+
+    {"turning", TURNING, {16, 16, 16, 768, 8192, 128, 6, 0}, {0, 0}, 1000000, &of_turning,
+     {2, 4, 4, 0, 0, 8}, 0},
+    {"turning, k 2", TURNING, {2, 2, 2, 96, 8192, 128, 6, 0}, {0, 0}, 1000000, &of_turning,
+     {1, 2, 2, 0, 0, 4}, 0},
+    {"turning, limit 5", TURNING, {16, 16, 16, 768, 8192, 128, 6, 0}, {0, 0}, 5, &of_turning,
+     {4, 2, 2, 0, 0, 5}, 0},
+    {"shafts", SHAFTS, {16, 16, 16, 768, 8192, 128, 6, 0}, {0, 0}, 1000000, &of_shafts,
+     {2, 2, 2, 0, 0, 9}, 0},
+    {"shafts, limit 8", SHAFTS, {16, 16, 16, 768, 8192, 128, 6, 0}, {0, 0}, 8, &of_shafts,
+     {4, 1, 1, 0, 0, 8}, 0},
+    {"shafts, an offer that fits", SHAFTS, {16, 16, 16, 768, 8192, 128, 6, 1}, {SELECTOR, ONE},
+     1000000, &of_shafts, {2, 2, 2, 0, 0, 15}, 0},
 };
 
 static const struct refused_host {
     struct counts counts;
     uint32_t refused;
 } refused_hosts[] = {
-    {{0, 16, 16, 8192, 128, 6, 0}, LEADING_BAD_K},
-    {{4097, 16, 16, 8192, 128, 6, 0}, LEADING_BAD_K},
-    {{16, 15, 16, 8192, 128, 6, 0}, LEADING_BAD_OUTPUT},
-    {{16, 16, 15, 8192, 128, 6, 0}, LEADING_BAD_OUTPUT},
-    {{16, 16, 16, 8192, 128, 5, 0}, LEADING_BAD_OUTPUT},
-    {{16, 16, 16, 0, 128, 6, 0}, LEADING_BAD_QUEUE},
-    {{16, 16, 16, 3, 128, 6, 0}, LEADING_BAD_QUEUE},
-    {{16, 16, 16, 8194, 128, 6, 0}, LEADING_BAD_QUEUE},
-    {{16, 16, 16, 8192, 127, 6, 0}, LEADING_BAD_STORE},
-    {{16, 16, 16, 8192, 8194, 6, 0}, LEADING_BAD_STORE},
-    {{16, 16, 16, 8192, 128, 6, 65}, LEADING_BAD_STORE},
-};
-
-/* A sheet: the small plant's with two bytes changed, and so many bytes of it. */
-struct given {
-    struct change first, second;
-    size_t length;
+    {{0, 16, 16, 768, 8192, 128, 6, 0}, LEADING_BAD_K},
+    {{4097, 16, 16, 768, 8192, 128, 6, 0}, LEADING_BAD_K},
+    {{0, 16, 16, 0, 8192, 128, 6, 0}, LEADING_BAD_K},
+    {{4097, 4097, 4097, 196655, 8192, 128, 6, 0}, LEADING_BAD_K},
+    {{16, 15, 16, 768, 8192, 128, 6, 0}, LEADING_BAD_OUTPUT},
+    {{16, 16, 15, 768, 8192, 128, 6, 0}, LEADING_BAD_OUTPUT},
+    {{16, 16, 16, 768, 8192, 128, 5, 0}, LEADING_BAD_OUTPUT},
+    {{16, 15, 16, 767, 8192, 128, 6, 0}, LEADING_BAD_OUTPUT},
+    {{16, 16, 15, 767, 8192, 128, 6, 0}, LEADING_BAD_OUTPUT},
+    {{16, 16, 16, 767, 8192, 128, 5, 0}, LEADING_BAD_OUTPUT},
+    {{16, 16, 16, 767, 8192, 128, 6, 0}, LEADING_BAD_VALUES_ROOM},
+    {{16, 16, 16, 16, 8192, 128, 6, 0}, LEADING_BAD_VALUES_ROOM},
+    {{16, 16, 16, 0, 8192, 128, 6, 0}, LEADING_BAD_VALUES_ROOM},
+    {{1, 1, 1, 47, 8192, 128, 6, 0}, LEADING_BAD_VALUES_ROOM},
+    {{4096, 4096, 4096, 196607, 8192, 128, 6, 0}, LEADING_BAD_VALUES_ROOM},
+    {{4096, 4096, 4096, 0, 8192, 128, 6, 0}, LEADING_BAD_VALUES_ROOM},
+    {{16, 16, 16, 767, 3, 128, 6, 0}, LEADING_BAD_VALUES_ROOM},
+    {{16, 16, 16, 767, 8192, 127, 6, 65}, LEADING_BAD_VALUES_ROOM},
+    {{16, 16, 16, 768, 0, 128, 6, 0}, LEADING_BAD_QUEUE},
+    {{16, 16, 16, 768, 3, 128, 6, 0}, LEADING_BAD_QUEUE},
+    {{16, 16, 16, 768, 8194, 128, 6, 0}, LEADING_BAD_QUEUE},
+    {{16, 16, 16, 768, 8192, 127, 6, 0}, LEADING_BAD_STORE},
+    {{16, 16, 16, 768, 8192, 8194, 6, 0}, LEADING_BAD_STORE},
+    {{16, 16, 16, 768, 8192, 128, 6, 65}, LEADING_BAD_STORE},
 };
 
 static const struct refused_sheet {
     struct given given;
     uint32_t refused;
 } refused_sheets[] = {
-    {{{UNCHANGED, 0}, {UNCHANGED, 0}, 0}, LEADING_SHEET_SHORT},
-    {{{UNCHANGED, 0}, {UNCHANGED, 0}, 19}, LEADING_SHEET_SHORT},
-    {{{0, 0x02}, {1, 0x00}, 20}, LEADING_SHEET_EDITION},
-    {{{1, 0x00}, {UNCHANGED, 0}, 20}, LEADING_SHEET_PARTS},
-    {{{1, 0x88}, {UNCHANGED, 0}, 20}, LEADING_SHEET_PARTS},
-    {{{1, 0x14}, {UNCHANGED, 0}, 20}, LEADING_SHEET_HIDDEN},
-    {{{2, 0x30}, {3, 0x08}, 20}, LEADING_SHEET_CLAUSES},
-    {{{14, 0x70}, {UNCHANGED, 0}, 20}, LEADING_SHEET_VARIABLE},
-    {{{14, 0x12}, {UNCHANGED, 0}, 20}, LEADING_SHEET_VALUE},
-    {{{19, 0x01}, {UNCHANGED, 0}, 21}, LEADING_SHEET_FILLER},
-    {{{UNCHANGED, 0}, {UNCHANGED, 0}, 21}, LEADING_SHEET_LONG},
+    {{small_plant, {UNCHANGED, 0}, {UNCHANGED, 0}, 0}, LEADING_SHEET_SHORT},
+    {{small_plant, {UNCHANGED, 0}, {UNCHANGED, 0}, 19}, LEADING_SHEET_SHORT},
+    {{small_plant, {0, 0x02}, {1, 0x00}, 20}, LEADING_SHEET_EDITION},
+    {{small_plant, {1, 0x00}, {UNCHANGED, 0}, 20}, LEADING_SHEET_PARTS},
+    {{small_plant, {1, 0x88}, {UNCHANGED, 0}, 20}, LEADING_SHEET_PARTS},
+    {{small_plant, {1, 0x14}, {UNCHANGED, 0}, 20}, LEADING_SHEET_HIDDEN},
+    {{small_plant, {2, 0x30}, {3, 0x08}, 20}, LEADING_SHEET_CLAUSES},
+    {{small_plant, {14, 0x70}, {UNCHANGED, 0}, 20}, LEADING_SHEET_VARIABLE},
+    {{small_plant, {14, 0x12}, {UNCHANGED, 0}, 20}, LEADING_SHEET_VALUE},
+    {{small_plant, {19, 0x01}, {UNCHANGED, 0}, 21}, LEADING_SHEET_FILLER},
+    {{small_plant, {UNCHANGED, 0}, {UNCHANGED, 0}, 21}, LEADING_SHEET_LONG},
 };
 
-#define AS_IT_IS {{UNCHANGED, 0}, {UNCHANGED, 0}, 20}
-#define EMPTY_CLAUSE {{3, 0x18}, {UNCHANGED, 0}, 21}
-/* The second clause now is: the selector is not in state 1. */
-#define NEVER_ONE {{18, 0x40}, {19, 0x88}, 20}
-#define NO_SHEET {{UNCHANGED, 0}, {UNCHANGED, 0}, 0}
-
-#define SELECTOR LEADING_MASK(0)
-#define CLUTCH LEADING_MASK(1)
-#define ZERO LEADING_CODE(0, 0)
-#define ONE LEADING_CODE(0, 1)
 #define OFFERS_MOST 2
 
 /* Two runs, the second with what leading_held() says of the first: that number, and
@@ -160,7 +235,7 @@ struct question {
 };
 
 /* Tests and reductions: what is asked, and what is written; a conflict only after
- * LEADING_REDUCE_CONFLICT. */
+ * LEADING_REDUCE_CONFLICT, and values by a test alone, zeros unless it is consistent. */
 static const struct answered {
     const char *name;
     enum call call;
@@ -168,31 +243,42 @@ static const struct answered {
     struct question question;
     uint32_t result[LEADING_ANSWER_WORDS];
     uint64_t conflict[LEADING_CONFLICT_WORDS];
+    uint8_t shown[VARIABLES_MOST];
 } answers[] = {
-    {"test both", TEST, AS_IT_IS, {BOTH, ZERO, 1000000, 2, 2}, {2, 2}, {0, 0}},
-    {"test both, limit 2", TEST, AS_IT_IS, {BOTH, ZERO, 2, 2, 3}, {2, 2}, {0, 0}},
-    {"test both, limit 1", TEST, AS_IT_IS, {BOTH, ZERO, 1, 2, 8}, {3, 1}, {0, 0}},
-    {"test both, limit 0", TEST, AS_IT_IS, {BOTH, ZERO, 0, 2, 2}, {3, 0}, {0, 0}},
-    {"test both at fault", TEST, AS_IT_IS, {BOTH, BOTH_ONE, 1, 0, 2}, {1, 1}, {0, 0}},
-    {"test none", TEST, AS_IT_IS, {0, 0, 6, 0, 2}, {1, 6}, {0, 0}},
-    {"test none, limit 5", TEST, AS_IT_IS, {0, 0, 5, 0, 2}, {3, 5}, {0, 0}},
-    {"test selector", TEST, AS_IT_IS, {SELECTOR, ZERO, UINT32_MAX, 0, 2}, {1, 5}, {0, 0}},
-    {"test clutch", TEST, AS_IT_IS, {CLUTCH, LEADING_CODE(1, 1), 9, 0, 2}, {1, 2}, {0, 0}},
-    {"test false clause", TEST, NEVER_ONE, {SELECTOR, ONE, 0, 0, 2}, {2, 0}, {0, 0}},
-    {"test empty clause", TEST, EMPTY_CLAUSE, {0, 0, 0, 0, 2}, {2, 0}, {0, 0}},
+    {"test both", TEST, AS_IT_IS, {BOTH, ZERO, 1000000, 2, 2}, {2, 2}, {0, 0}, {0}},
+    {"test both, limit 2", TEST, AS_IT_IS, {BOTH, ZERO, 2, 2, 3}, {2, 2}, {0, 0}, {0}},
+    {"test both, limit 1", TEST, AS_IT_IS, {BOTH, ZERO, 1, 2, 8}, {3, 1}, {0, 0}, {0}},
+    {"test both, limit 0", TEST, AS_IT_IS, {BOTH, ZERO, 0, 2, 2}, {3, 0}, {0, 0}, {0}},
+    {"test both at fault", TEST, AS_IT_IS, {BOTH, BOTH_ONE, 1, 0, 2}, {1, 1}, {0, 0}, {1, 1, 0}},
+    {"test none", TEST, AS_IT_IS, {0, 0, 6, 0, 2}, {1, 6}, {0, 0}, {0, 1, 0}},
+    {"test none, limit 5", TEST, AS_IT_IS, {0, 0, 5, 0, 2}, {3, 5}, {0, 0}, {0}},
+    {"test selector", TEST, AS_IT_IS, {SELECTOR, ZERO, UINT32_MAX, 0, 2}, {1, 5}, {0, 0},
+     {0, 1, 0}},
+    {"test clutch", TEST, AS_IT_IS, {CLUTCH, LEADING_CODE(1, 1), 9, 0, 2}, {1, 2}, {0, 0},
+     {0, 1, 0}},
+    {"test false clause", TEST, NEVER_ONE, {SELECTOR, ONE, 0, 0, 2}, {2, 0}, {0, 0}, {0}},
+    {"test empty clause", TEST, EMPTY_CLAUSE, {0, 0, 0, 0, 2}, {2, 0}, {0, 0}, {0}},
+    {"test turning", TEST, TURNING, {0, 0, 4, 0, 2}, {1, 4}, {0, 0}, {0, 0, 1}},
+    {"test turning, all", TEST, TURNING, {BOTH, BOTH_ONE, 2, 0, 2}, {1, 2}, {0, 0}, {1, 1, 1}},
+    {"test turning, limit 3", TEST, TURNING, {0, 0, 3, 0, 2}, {3, 3}, {0, 0}, {0}},
+    {"test shafts", TEST, SHAFTS, {0, 0, 100, 0, 2}, {1, 4}, {0, 0}, {0, 0, 1}},
+    {"test shafts, all", TEST, SHAFTS, {SELECTOR, ONE, 6, 0, 2}, {1, 6}, {0, 0}, {1, 2, 0}},
+    {"test shafts, limit 5", TEST, SHAFTS, {SELECTOR, ONE, 5, 0, 2}, {3, 5}, {0, 0}, {0}},
 
-    {"reduce both", REDUCE, AS_IT_IS, {BOTH, ZERO, 1000000, 2, 2}, {2, 12}, {BOTH, ZERO}},
-    {"reduce both, limit 12", REDUCE, AS_IT_IS, {BOTH, ZERO, 12, 3, 3}, {2, 12}, {BOTH, ZERO}},
-    {"reduce both, limit 11", REDUCE, AS_IT_IS, {BOTH, ZERO, 11, 4, 8}, {3, 11}, {0, 0}},
-    {"reduce both, limit 2", REDUCE, AS_IT_IS, {BOTH, ZERO, 2, 2, 2}, {3, 2}, {0, 0}},
-    {"reduce both, limit 1", REDUCE, AS_IT_IS, {BOTH, ZERO, 1, 2, 2}, {3, 1}, {0, 0}},
-    {"reduce both, limit 0", REDUCE, AS_IT_IS, {BOTH, ZERO, 0, 2, 2}, {3, 0}, {0, 0}},
-    {"reduce both at fault", REDUCE, AS_IT_IS, {BOTH, BOTH_ONE, 1, 2, 2}, {1, 1}, {0, 0}},
-    {"reduce selector", REDUCE, AS_IT_IS, {SELECTOR, ZERO, 5, 2, 2}, {1, 5}, {0, 0}},
-    {"reduce none", REDUCE, AS_IT_IS, {0, 0, 6, 2, 2}, {1, 6}, {0, 0}},
-    {"reduce to selector", REDUCE, NEVER_ONE, {BOTH, BOTH_ONE, 2, 4, 4}, {2, 2}, {SELECTOR, ONE}},
-    {"reduce to selector, limit 1", REDUCE, NEVER_ONE, {BOTH, BOTH_ONE, 1, 2, 2}, {3, 1}, {0, 0}},
-    {"reduce empty clause", REDUCE, EMPTY_CLAUSE, {BOTH, BOTH_ONE, 0, 2, 2}, {2, 0}, {0, 0}},
+    {"reduce both", REDUCE, AS_IT_IS, {BOTH, ZERO, 1000000, 2, 2}, {2, 12}, {BOTH, ZERO}, {0}},
+    {"reduce both, limit 12", REDUCE, AS_IT_IS, {BOTH, ZERO, 12, 3, 3}, {2, 12}, {BOTH, ZERO}, {0}},
+    {"reduce both, limit 11", REDUCE, AS_IT_IS, {BOTH, ZERO, 11, 4, 8}, {3, 11}, {0, 0}, {0}},
+    {"reduce both, limit 2", REDUCE, AS_IT_IS, {BOTH, ZERO, 2, 2, 2}, {3, 2}, {0, 0}, {0}},
+    {"reduce both, limit 1", REDUCE, AS_IT_IS, {BOTH, ZERO, 1, 2, 2}, {3, 1}, {0, 0}, {0}},
+    {"reduce both, limit 0", REDUCE, AS_IT_IS, {BOTH, ZERO, 0, 2, 2}, {3, 0}, {0, 0}, {0}},
+    {"reduce both at fault", REDUCE, AS_IT_IS, {BOTH, BOTH_ONE, 1, 2, 2}, {1, 1}, {0, 0}, {0}},
+    {"reduce selector", REDUCE, AS_IT_IS, {SELECTOR, ZERO, 5, 2, 2}, {1, 5}, {0, 0}, {0}},
+    {"reduce none", REDUCE, AS_IT_IS, {0, 0, 6, 2, 2}, {1, 6}, {0, 0}, {0}},
+    {"reduce to selector", REDUCE, NEVER_ONE, {BOTH, BOTH_ONE, 2, 4, 4}, {2, 2}, {SELECTOR, ONE},
+     {0}},
+    {"reduce to selector, limit 1", REDUCE, NEVER_ONE, {BOTH, BOTH_ONE, 1, 2, 2}, {3, 1}, {0, 0},
+     {0}},
+    {"reduce empty clause", REDUCE, EMPTY_CLAUSE, {BOTH, BOTH_ONE, 0, 2, 2}, {2, 0}, {0, 0}, {0}},
 };
 
 /* Of tests and reductions, where the sheet is not the ground. A short conflict is
@@ -217,14 +303,15 @@ static const struct refused_question {
     {AS_IT_IS, {0, 1, 0, 4, 8}, {LEADING_BAD_VALUES, LEADING_BAD_VALUES}},
 };
 
-/* Each lent buffer begins behind one word, and ends before another. */
+/* Each lent buffer begins behind one word or byte, and ends before another. */
 static struct lent {
     uint64_t codes[K_ROOM + 2], queue[QUEUE_ROOM + 2], store[STORE_ROOM + 2];
     uint64_t conflict[CONFLICT_ROOM + 2];
     uint32_t costs[K_ROOM + 2], result[RESULT_ROOM + 2];
+    uint8_t values[VALUES_ROOM + 2], shown[LEADING_STATE_BYTES + 2];
 } now, before;
 
-static uint8_t sheet[sizeof small_plant + 1];
+static uint8_t sheet[SHEET_ROOM];
 static int failures;
 
 static void expect(int holds, const char *name, const char *what)
@@ -235,17 +322,11 @@ static void expect(int holds, const char *name, const char *what)
     printf("test_leading: %s: %s\n", name, what);
 }
 
-static void junk(void)
-{
-    memset(sheet, 0, sizeof sheet);
-    memcpy(sheet, small_plant, sizeof small_plant);
-    memset(&now, JUNK, sizeof now);
-}
-
 /* Junk, and this sheet. */
 static void give(const struct given *g)
 {
-    junk();
+    memset(&now, JUNK, sizeof now);
+    memcpy(sheet, g->plant, sizeof sheet);
     if (g->first.place < sizeof sheet)
         sheet[g->first.place] = g->first.byte;
     if (g->second.place < sizeof sheet)
@@ -254,10 +335,10 @@ static void give(const struct given *g)
 
 static uint32_t call(const struct counts *c, size_t length, uint32_t limit)
 {
-    before = now;
+    memcpy(&before, &now, sizeof now);
     return leading_list(sheet, length, now.codes + 1, c->codes, now.costs + 1, c->costs,
-                        now.queue + 1, c->queue, now.store + 1, c->store,
-                        now.result + 1, c->result, c->k, c->held, limit);
+                        now.values + 1, c->values, now.queue + 1, c->queue, now.store + 1,
+                        c->store, now.result + 1, c->result, c->k, c->held, limit);
 }
 
 static int all64(const uint64_t *words, size_t from, size_t to, uint64_t word)
@@ -276,13 +357,35 @@ static int all32(const uint32_t *words, size_t from, size_t to, uint32_t word)
     return 1;
 }
 
-static void expect_list(const char *name, size_t listed)
+static int all8(const uint8_t *bytes, size_t from, size_t to, uint8_t byte)
+{
+    for (; from < to; from++)
+        if (bytes[from] != byte)
+            return 0;
+    return 1;
+}
+
+static void expect_list(const char *name, const struct states *s, size_t listed)
 {
     expect(now.codes[0] == JUNK64 && now.costs[0] == JUNK32, name, "word before the list");
-    expect(listed <= 3 && !memcmp(now.codes + 1, fitting, 8 * listed), name, "codes");
-    expect(listed <= 3 && !memcmp(now.costs + 1, fitting_costs, 4 * listed), name, "costs");
+    expect(!memcmp(now.codes + 1, s->codes, 8 * listed), name, "codes");
+    expect(!memcmp(now.costs + 1, s->costs, 4 * listed), name, "costs");
     expect(all64(now.codes, listed + 1, K_ROOM + 2, JUNK64), name, "codes beyond listed");
     expect(all32(now.costs, listed + 1, K_ROOM + 2, JUNK32), name, "costs beyond listed");
+}
+
+static void expect_values(const char *name, const struct states *s, size_t listed)
+{
+    expect(now.values[0] == JUNK, name, "byte before the values");
+    for (size_t i = 0; i < listed; i++) {
+        const uint8_t *state = now.values + 1 + LEADING_VALUE_PLACE(i, 0);
+        expect(!memcmp(state, s->values[i], VARIABLES_MOST), name, "values");
+        expect(all8(state, VARIABLES_MOST, LEADING_STATE_BYTES, 0), name,
+               "values beyond the variables");
+    }
+    expect(all8(now.values, LEADING_VALUES_BYTES(listed) + 1, VALUES_ROOM + 2, JUNK), name,
+           "values beyond listed");
+    expect(all8(now.shown, 0, LEADING_STATE_BYTES + 2, JUNK), name, "bytes not lent");
 }
 
 static void expect_work(const char *name, const struct run *r)
@@ -298,17 +401,15 @@ static void expect_work(const char *name, const struct run *r)
 
 static void test_run(const struct run *r)
 {
-    junk();
+    give(&r->given);
     if (r->counts.held > 0)
         memcpy(now.store + 1, r->offer, sizeof r->offer);
-    if (r->empty_clauses > 0)
-        sheet[3] = 0x18;
-    expect(call(&r->counts, sizeof small_plant + r->empty_clauses, r->limit) == LEADING_OK,
-           r->name, "refused");
+    expect(call(&r->counts, r->given.length, r->limit) == LEADING_OK, r->name, "refused");
     expect(now.result[0] == JUNK32 && !memcmp(now.result + 1, r->result, sizeof r->result) &&
                all32(now.result, LEADING_RESULT_WORDS + 1, RESULT_ROOM + 2, JUNK32),
            r->name, "result words");
-    expect_list(r->name, r->result[LEADING_LISTED]);
+    expect_list(r->name, r->states, r->result[LEADING_LISTED]);
+    expect_values(r->name, r->states, r->result[LEADING_LISTED]);
     expect_work(r->name, r);
 }
 
@@ -326,20 +427,21 @@ static void test_offered(const struct offered *o)
     expect(!memcmp(now.result + 1, o->result, sizeof o->result), o->name, "result words");
 }
 
-static void test_refusal(const struct counts *c, size_t length, uint32_t refused)
+static void test_refusal(const struct given *g, const struct counts *c, uint32_t refused)
 {
     char name[32];
     snprintf(name, sizeof name, "refusal %u", (unsigned)refused);
-    expect(call(c, length, 1000000) == refused, name, "another answer");
+    give(g);
+    expect(call(c, g->length, 1000000) == refused, name, "another answer");
     expect(!memcmp(&now, &before, sizeof now), name, "a buffer changed");
 }
 
 static uint32_t ask(enum call call, const struct question *q, size_t length)
 {
-    before = now;
+    memcpy(&before, &now, sizeof now);
     if (call == TEST)
-        return leading_test(sheet, length, q->mask, q->values, q->limit, now.result + 1,
-                            q->result);
+        return leading_test(sheet, length, q->mask, q->values, q->limit, now.shown + 1,
+                            now.result + 1, q->result);
     return leading_reduce(sheet, length, q->mask, q->values, q->limit, now.conflict + 1,
                           q->conflict, now.result + 1, q->result);
 }
@@ -353,7 +455,12 @@ static void test_answer(const struct answered *a)
     memcpy(before.result + 1, a->result, sizeof a->result);
     if (found)
         memcpy(before.conflict + 1, a->conflict, sizeof a->conflict);
+    if (a->call == TEST) {
+        memset(before.shown + 1, 0, LEADING_STATE_BYTES);
+        memcpy(before.shown + 1, a->shown, sizeof a->shown);
+    }
     expect(!memcmp(now.conflict, before.conflict, sizeof now.conflict), a->name, "conflict");
+    expect(!memcmp(now.shown, before.shown, sizeof now.shown), a->name, "values shown");
     expect(!memcmp(&now, &before, sizeof now), a->name, "another word changed");
 }
 
@@ -368,19 +475,19 @@ static void test_refused_call(enum call call, const struct given *g, const struc
     expect(!memcmp(&now, &before, sizeof now), name, "a buffer changed");
 }
 
+/* The host's refusals come before a sheet's: short values are the ground on any. */
 static void test_listings(void)
 {
+    static const struct given well = AS_IT_IS;
     for (size_t i = 0; i < COUNT(runs); i++)
         test_run(&runs[i]);
     for (size_t i = 0; i < COUNT(offered_runs); i++)
         test_offered(&offered_runs[i]);
-    for (size_t i = 0; i < COUNT(refused_hosts); i++) {
-        junk();
-        test_refusal(&refused_hosts[i].counts, sizeof small_plant, refused_hosts[i].refused);
-    }
+    for (size_t i = 0; i < COUNT(refused_hosts); i++)
+        test_refusal(&well, &refused_hosts[i].counts, refused_hosts[i].refused);
     for (size_t i = 0; i < COUNT(refused_sheets); i++) {
-        give(&refused_sheets[i].given);
-        test_refusal(&usual, refused_sheets[i].given.length, refused_sheets[i].refused);
+        test_refusal(&refused_sheets[i].given, &usual, refused_sheets[i].refused);
+        test_refusal(&refused_sheets[i].given, &short_values, LEADING_BAD_VALUES_ROOM);
     }
 }
 
@@ -421,8 +528,8 @@ static void test_version(void)
 /* Of each number a text, none twice; of any other "unknown". */
 static void test_refusal_texts(void)
 {
-    static const uint32_t others[] = {LEADING_BAD_SHEET_ROOM + 1, 99, UINT32_MAX};
-    for (uint32_t i = LEADING_OK; i <= LEADING_BAD_SHEET_ROOM; i++) {
+    static const uint32_t others[] = {LEADING_BAD_VALUES_ROOM + 1, 99, UINT32_MAX};
+    for (uint32_t i = LEADING_OK; i <= LEADING_BAD_VALUES_ROOM; i++) {
         expect(strcmp(leading_refusal_text(i), "unknown") != 0, "texts", "a refusal has none");
         for (uint32_t j = LEADING_OK; j < i; j++)
             expect(strcmp(leading_refusal_text(i), leading_refusal_text(j)) != 0, "texts",
@@ -458,6 +565,24 @@ static void test_parts(void)
     }
 }
 
+/* The bits around the number are ones. */
+static void test_hidden(void)
+{
+    uint8_t bytes[3] = {LEADING_EDITION, 0, 0};
+    expect(LEADING_HIDDEN(small_plant) == 1, "LEADING_HIDDEN", "of the small plant");
+    expect(LEADING_HIDDEN(shafts_plant) == 2, "LEADING_HIDDEN", "of the shafts");
+    for (unsigned hidden = 0; hidden < 64; hidden++) {
+        bytes[1] = (uint8_t)(0xf8 | hidden >> 3);
+        bytes[2] = (uint8_t)((hidden & 7) << 5 | 0x1f);
+        const signed char *as_signed = (const signed char *)bytes;
+        expect(LEADING_HIDDEN(bytes) == hidden, "LEADING_HIDDEN", "of bytes");
+        expect(LEADING_HIDDEN(as_signed) == hidden, "LEADING_HIDDEN", "of signed bytes");
+    }
+    expect(LEADING_VALUE_PLACE(0, 47) == 47 && LEADING_VALUE_PLACE(1, 0) == 48 &&
+               LEADING_VALUE_PLACE(4095, 47) + 1 == LEADING_VALUES_BYTES(LEADING_K_MOST),
+           "LEADING_VALUE_PLACE", "another place");
+}
+
 int main(void)
 {
     test_listings();
@@ -466,10 +591,11 @@ int main(void)
     test_refusal_texts();
     test_texts();
     test_parts();
+    test_hidden();
     printf("test_leading: %zu runs, %zu with offers, %zu tests and reductions, %zu refusals, "
            "%d failures\n",
            COUNT(runs), COUNT(offered_runs), COUNT(answers),
-           COUNT(refused_hosts) + COUNT(refused_sheets) +
+           COUNT(refused_hosts) + 2 * COUNT(refused_sheets) +
                CALLS * (COUNT(refused_questions) + COUNT(refused_sheets)),
            failures);
     return failures == 0 ? 0 : 1;

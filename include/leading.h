@@ -3,13 +3,15 @@
  * the plant decides.
  *
  * leading_list() reads a plant sheet and lists the cheapest states of the plant's
- * parts that fit all of the sheet's clauses, cheapest first, equal costs by code.
- * Two lists of one sheet never contradict each other: of any two, one begins the
- * other, whatever queue, store or trial limit each was given. That is proved of
- * the code that you link.
+ * parts that fit all of the sheet's clauses, cheapest first, equal costs by code,
+ * and for each the values of the hidden variables. Two lists of one sheet never
+ * contradict each other: of any two, one begins the other, whatever queue, store or
+ * trial limit each was given, and a state on both has the same hidden values. That
+ * is proved of the code that you link.
  *
- * leading_test() says whether given states of some parts can be together, and
- * leading_reduce() which of them are to blame where they cannot.
+ * leading_test() says whether given states of some parts can be together, and shows
+ * values of all variables where they can; leading_reduce() says which of them are to
+ * blame where they cannot.
  * leading_write() makes a sheet of a plant's tables, and leading_read() the tables
  * of a sheet; each undoes the other.
  * leading_held() says how many conflicts a listing leaves for the next one, and
@@ -51,11 +53,14 @@
  *         0x00, 0x00, 0x18, 0x98, 0x10, 0x06, 0x01, 0x04, 0x42, 0x00};
  *     static uint64_t codes[16];
  *     static uint32_t costs[16];
+ *     static uint8_t values[LEADING_VALUES_BYTES(16)];
  *     static uint64_t queue[LEADING_QUEUE_WORDS(4096)];
  *     static uint64_t store[LEADING_STORE_WORDS(64)];
  *     uint32_t result[LEADING_RESULT_WORDS];
+ *     unsigned drive = LEADING_PARTS(sheet); // the first hidden variable
  *
  *     uint32_t refused = leading_list(sheet, sizeof sheet, codes, 16, costs, 16,
+ *                                     values, LEADING_VALUES_BYTES(16),
  *                                     queue, LEADING_QUEUE_WORDS(4096),
  *                                     store, LEADING_STORE_WORDS(64),
  *                                     result, LEADING_RESULT_WORDS,
@@ -65,8 +70,9 @@
  *         return 1;
  *     }
  *     for (uint32_t i = 0; i < result[LEADING_LISTED]; i++)
- *         printf("cost %" PRIu32 ": selector %u, clutch %u\n", costs[i],
- *                LEADING_VALUE(codes[i], 0), LEADING_VALUE(codes[i], 1));
+ *         printf("cost %" PRIu32 ": selector %u, clutch %u, hidden drive %u\n",
+ *                costs[i], LEADING_VALUE(codes[i], 0), LEADING_VALUE(codes[i], 1),
+ *                values[LEADING_VALUE_PLACE(i, drive)]);
  *     if (result[LEADING_ENDING] == LEADING_ALL)
  *         printf("no other explanation\n");
  *     else
@@ -79,9 +85,9 @@
  * It prints
  *
  * @output
- * cost 3: selector 0, clutch 1
- * cost 3: selector 1, clutch 0
- * cost 6: selector 1, clutch 1
+ * cost 3: selector 0, clutch 1, hidden drive 0
+ * cost 3: selector 1, clutch 0, hidden drive 0
+ * cost 6: selector 1, clutch 1, hidden drive 0
  * no other explanation
  * @endoutput
  *
@@ -101,10 +107,10 @@ extern "C" {
 
 /* Of this interface. MAJOR rises with a change that breaks callers, MINOR with
  * one that adds to it, or after which an answer says more. */
-#define LEADING_VERSION_MAJOR 0
-#define LEADING_VERSION_MINOR 5
+#define LEADING_VERSION_MAJOR 1
+#define LEADING_VERSION_MINOR 0
 #define LEADING_VERSION_PATCH 0
-#define LEADING_VERSION "0.5.0"
+#define LEADING_VERSION "1.0.0"
 
 /* The three in one number, for #if and for leading_version(). */
 #define LEADING_VERSION_NUMBER                                       \
@@ -131,6 +137,19 @@ extern "C" {
 #define LEADING_QUEUE_WORDS(entries) ((size_t)2 * (entries))
 #define LEADING_STORE_WORDS(entries) ((size_t)2 * (entries))
 
+/* Bytes of the values of one state, one for each variable: parts first, then hidden
+ * variables, then zeros. */
+#define LEADING_STATE_BYTES 48
+
+/* Bytes of the values of so many states. */
+#define LEADING_VALUES_BYTES(states) ((size_t)LEADING_STATE_BYTES * (states))
+
+/* The place among the values of a listing of a variable's byte, for the state at
+ * this place of the list, from 0. Part p has the number p, and hidden variable h the
+ * number LEADING_PARTS(sheet) + h, both from 0. */
+#define LEADING_VALUE_PLACE(state, variable) \
+    (LEADING_VALUES_BYTES(state) + (size_t)(variable))
+
 /* uint32_t words of the result: of a listing; of a test or reduction. */
 #define LEADING_RESULT_WORDS 6
 #define LEADING_ANSWER_WORDS 2
@@ -149,10 +168,10 @@ extern "C" {
 #define LEADING_NUMBERS_WORDS 3
 
 /*
- * Stack that a call may take, in bytes, whatever it is given. Measured: 97,888,
+ * Stack that a call may take, in bytes, whatever it is given. Measured: 98,032,
  * on a painted stack with the most variables and the deepest search that a sheet
  * allows (the frames of leading_list, of the test and of 49 nested searches), and
- * 89,928 where a sheet has at most 128 clauses:
+ * 90,072 where a sheet has at most 128 clauses:
  *
  *     make host && target/host/stack
  *
@@ -168,9 +187,10 @@ extern "C" {
  * first in the order below, save that within a sheet the order is that of
  * reading. A refused call changes no buffer, the result included.
  *
- * leading_list is refused by 1 to 13, leading_test and leading_reduce by 2 and
- * by 5 to 15, leading_read by 5 to 13. leading_write has an order of its own: 16,
- * 17, 7, 8, 9, then 10 and 11 literal by literal, then 18.
+ * leading_list is refused by 1 to 13 and by 19, which comes right after 2;
+ * leading_test and leading_reduce by 2 and by 5 to 15, leading_read by 5 to 13.
+ * leading_write has an order of its own: 16, 17, 7, 8, 9, then 10 and 11 literal by
+ * literal, then 18.
  */
 enum leading_refusal {
     LEADING_OK = 0,
@@ -182,6 +202,8 @@ enum leading_refusal {
                                or reduction: result_len below
                                LEADING_ANSWER_WORDS; of a reduction also:
                                conflict_len below LEADING_CONFLICT_WORDS */
+    LEADING_BAD_VALUES_ROOM = 19, /* of a listing: values_len below
+                                     LEADING_VALUES_BYTES(k) */
     LEADING_BAD_QUEUE = 3,  /* queue_len is odd, 0 or above 8,192 */
     LEADING_BAD_STORE = 4,  /* store_len is odd or above 8,192, or held is more
                                than the entries of the store */
@@ -222,7 +244,8 @@ enum leading_numbers {
 /* The places of a listing's result words. */
 enum leading_result {
     LEADING_ENDING = 0,  /* an enum leading_ending */
-    LEADING_LISTED = 1,  /* states listed: words of codes and of costs written */
+    LEADING_LISTED = 1,  /* states listed: words of codes and of costs written,
+                          * and of values LEADING_STATE_BYTES for each */
     LEADING_TESTED = 2,  /* states of the plant tested to the end */
     LEADING_LEARNED = 3, /* conflicts found in this run and put in the store */
     LEADING_UNKEPT = 4,  /* states that did not fit, met with the store full:
@@ -282,6 +305,8 @@ static inline const char *leading_refusal_text(uint32_t refusal)
     case LEADING_OK: return "not refused";
     case LEADING_BAD_K: return "k is not 1 to 4096";
     case LEADING_BAD_OUTPUT: return "codes, costs, conflict or result too short";
+    case LEADING_BAD_VALUES_ROOM:
+        return "the values are shorter than 48 bytes for each of k states";
     case LEADING_BAD_QUEUE: return "the queue is not of 1 to 4096 entries";
     case LEADING_BAD_STORE:
         return "the store is not of 0 to 4096 entries, or held is above them";
@@ -360,6 +385,11 @@ static inline const char *leading_reduce_text(uint32_t answer)
  * sheet is not refused. */
 #define LEADING_PARTS(sheet) ((unsigned)(sheet)[1] >> 3 & 31u)
 
+/* The number of hidden variables that it names, in its second and third byte: 0 to
+ * 32 where the sheet is not refused. */
+#define LEADING_HIDDEN(sheet) \
+    (((unsigned)(sheet)[1] & 7u) << 3 | ((unsigned)(sheet)[2] >> 5 & 7u))
+
 /* ---- Codes and conflicts ------------------------------------------------ */
 
 /*
@@ -388,8 +418,8 @@ static inline const char *leading_reduce_text(uint32_t answer)
  * library keeps no pointer. A count after a pointer is in elements, not bytes.
  * Pointers are not NULL, also where the count is 0, and are aligned as their type
  * asks. No two buffers overlap, the sheet among them. While the call lasts nobody
- * else writes the sheet or touches the other buffers. Apart from the
- * counts that refusals 1 to 4, 16 and 18 name, none of this is checked: as with memcpy,
+ * else writes the sheet or touches the other buffers. Apart from the counts that
+ * refusals 1 to 4, 16, 18 and 19 name, none of this is checked: as with memcpy,
  * breaking it is undefined.
  */
 
@@ -409,6 +439,17 @@ uint32_t leading_version(void);
  *     Out: the listed states' codes and costs, the first at place 0. At least k
  *     words each. Before: anything. After: LEADING_LISTED words are written and
  *     those behind them unchanged.
+ * values, values_len
+ *     Out: the values of all variables in the listed states, LEADING_STATE_BYTES
+ *     bytes for each state, in the order of the list: one byte for each part, one
+ *     for each hidden variable, then zeros. LEADING_VALUE_PLACE says where each is.
+ *     At least LEADING_VALUES_BYTES(k) bytes; fewer are refused with 19. Before:
+ *     anything. After: LEADING_VALUES_BYTES(listed) bytes are written and those
+ *     behind them unchanged. The values make every clause hold, and the parts' are
+ *     those of the code. Where several fit they are the first, compared in the order
+ *     of the variables' numbers, lower values first. So they depend on the sheet and
+ *     the state alone: two cabins that list a state show the same shafts, whatever
+ *     each was asked before. That is proved.
  * queue, queue_len
  *     Work space: LEADING_QUEUE_WORDS(entries), 1 to 4,096 entries. Before:
  *     anything. After: all words 0. A short queue may end the run
@@ -445,6 +486,7 @@ uint32_t leading_version(void);
 uint32_t leading_list(const uint8_t *sheet, size_t sheet_len,
                       uint64_t *codes, size_t codes_len,
                       uint32_t *costs, size_t costs_len,
+                      uint8_t *values, size_t values_len,
                       uint64_t *queue, size_t queue_len,
                       uint64_t *store, size_t store_len,
                       uint32_t *result, size_t result_len,
@@ -473,6 +515,7 @@ uint32_t leading_list(const uint8_t *sheet, size_t sheet_len,
  *     0x00, 0x00, 0x18, 0x98, 0x10, 0x06, 0x01, 0x04, 0x42, 0x00};
  * static uint64_t codes[16];
  * static uint32_t costs[16];
+ * static uint8_t values[LEADING_VALUES_BYTES(16)];
  * static uint64_t queue[LEADING_QUEUE_WORDS(4096)];
  * static uint64_t store[LEADING_STORE_WORDS(64)];
  *
@@ -484,6 +527,7 @@ uint32_t leading_list(const uint8_t *sheet, size_t sheet_len,
  *     for (int run = 0; run < 2; run++) {
  *         uint32_t result[LEADING_RESULT_WORDS];
  *         uint32_t refused = leading_list(sheet, sizeof sheet, codes, 16, costs, 16,
+ *                                         values, LEADING_VALUES_BYTES(16),
  *                                         queue, LEADING_QUEUE_WORDS(4096),
  *                                         store, LEADING_STORE_WORDS(64),
  *                                         result, LEADING_RESULT_WORDS,
@@ -521,7 +565,7 @@ static inline size_t leading_held(const uint64_t *store, size_t store_len,
 /*
  * Tests whether given states of some parts can be together: whether some states
  * of all other parts and some values of the hidden variables make every clause
- * hold.
+ * hold. Where they can, it shows values of all variables that do, the first ones.
  *
  * sheet, sheet_len
  *     The plant sheet, as for leading_list.
@@ -534,6 +578,14 @@ static inline size_t leading_held(const uint64_t *store, size_t store_len,
  * limit
  *     The most trials; 0 is allowed. A trial is one value set, a few nanoseconds.
  *     Where a clause is false from the start the test answers without any.
+ * shown
+ *     Out: LEADING_STATE_BYTES bytes, all of which are lent; there is no count.
+ *     Before: anything. After LEADING_TEST_CONSISTENT: values of all variables, one
+ *     byte for each part, one for each hidden variable, then zeros. They make every
+ *     clause hold, and the parts that were given have the states that were given.
+ *     Where several fit they are the first, compared as in a listing; where all parts
+ *     were given they are what leading_list shows for that state. After the other
+ *     two answers: zeros.
  * result, result_len
  *     Out: the two words of enum leading_answer, the first an enum
  *     leading_test_answer. At least LEADING_ANSWER_WORDS words; fewer are refused
@@ -546,6 +598,7 @@ static inline size_t leading_held(const uint64_t *store, size_t store_len,
  */
 uint32_t leading_test(const uint8_t *sheet, size_t sheet_len,
                       uint64_t mask, uint64_t values, uint32_t limit,
+                      uint8_t *shown,
                       uint32_t *result, size_t result_len);
 
 /*
@@ -586,11 +639,12 @@ uint32_t leading_test(const uint8_t *sheet, size_t sheet_len,
  *         0x00, 0x00, 0x18, 0x98, 0x10, 0x06, 0x01, 0x04, 0x42, 0x00};
  *     uint64_t mask = LEADING_MASK(0) | LEADING_MASK(1);
  *     uint64_t values = LEADING_CODE(0, 0) | LEADING_CODE(1, 0);
+ *     uint8_t shown[LEADING_STATE_BYTES];
  *     uint64_t conflict[LEADING_CONFLICT_WORDS];
  *     uint32_t result[LEADING_ANSWER_WORDS];
  *
  *     uint32_t refused = leading_test(sheet, sizeof sheet, mask, values, 1000000,
- *                                     result, LEADING_ANSWER_WORDS);
+ *                                     shown, result, LEADING_ANSWER_WORDS);
  *     if (refused == LEADING_OK) {
  *         printf("%s, %" PRIu32 " trials\n",
  *                leading_test_text(result[LEADING_ANSWER]),

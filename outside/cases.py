@@ -8,11 +8,11 @@ from typing import NamedTuple
 
 from listing import Settings
 from plant import Refusal, encode, fields, pack, read
-from search import to_words, well_formed
+from search import STATE_BYTES, to_words, well_formed
 from shapes import nogood_plant, random_sizes, random_words, shaped
 from shapes import small_random_plant, spoil
 from sheet_cases import end_damage, flipped, header_damage, longest_plant
-from test_cases import Call, answer_call, tight_plant
+from test_cases import Call, answer_call, middle_plant, tight_plant
 
 U32_MOST = 2**32 - 1
 ENTRIES_MOST = 4096
@@ -35,16 +35,17 @@ class Case(NamedTuple):
         return {name: getattr(self.settings, name) for name in ("k", "held", "limit")}
 
     def lent(self):
-        s = self.settings
-        work = {"codes": s.codes, "costs": s.costs, "queue": s.queue, "store": s.store}
+        names = ("codes", "costs", "values", "queue", "store")
+        work = {name: getattr(self.settings, name) for name in names}
         return {"sheet": self.sheet, **work, "result": self.result}
 
 
 class CallCase(NamedTuple):
-    """A test or a reduction; a test lends no conflict."""
+    """A test or a reduction. The one lends bytes for the values to show, the other
+    words for the conflict."""
 
     call: Call
-    conflict: list  # as lent, as is the result
+    found: list  # these, as lent, as is the result
     result: list
     damaged: bool = False
 
@@ -60,17 +61,19 @@ class CallCase(NamedTuple):
         return {name: getattr(self.call, name) for name in ("mask", "values", "limit")}
 
     def lent(self):
-        work = {"conflict": self.conflict} if self.kind == REDUCE else {}
-        return {"sheet": self.sheet, **work, "result": self.result}
+        name = "conflict" if self.kind == REDUCE else "shown"
+        return {"sheet": self.sheet, name: self.found, "result": self.result}
 
 
 @dataclass
 class Shape:
-    """A case's numbers: the buffers in words, the rest as it is given."""
+    """A case's numbers: the buffers in words (of values a byte), the rest as it is
+    given."""
 
     k: int
     codes: int
     costs: int
+    values: int
     queue: int
     store: int
     result: int
@@ -112,12 +115,18 @@ def long_list_plant(rng):
     return shaped(rng, [2] * decisions, decisions, lengths, "zero")
 
 
+def shaft_plant(rng):
+    """Hidden variables that first fit between their first and their last value."""
+    return middle_plant(rng, rng.choice([1, 1, 2, 2, 3, 32]))
+
+
 PLANTS = [
     (30, small_random_plant),
     (20, nogood_plant),
     (18, tight_plant),
     (14, tied_plant),
     (12, wide_plant),
+    (20, shaft_plant),
     (3, crowded_plant),
     (1, long_list_plant),
     (0.2, longest_plant),
@@ -217,15 +226,34 @@ def fair_shape(rng, plant):
     store = 2 * rng.choice([0, 1, 2, 3, 8, 20, 64, 64, 4096])
     held = min(store // 2, rng.choice([0, 0, 1, 2, 5, 20, store // 2]))
     codes, costs = (k + rng.choice([0, 0, 1, 7]) for _ in range(2))
-    return Shape(k, codes, costs, queue, store, rng.choice([6, 7, 8]), held, any_limit(rng))
+    values = STATE_BYTES * k + rng.choice([0, 0, 1, 47, 300])
+    result, limit = rng.choice([6, 7, 8]), any_limit(rng)
+    return Shape(k, codes, costs, values, queue, store, result, held, limit)
+
+
+def few_values(rng, k):
+    """Bytes too few for k states: by one, by many, where 8 or 16 bits wrap, or none."""
+    most = max(STATE_BYTES * k - 1, 0)
+    wrapped = [STATE_BYTES * k & 0xFF, STATE_BYTES * k & 0xFFFF]
+    return min(most, rng.choice([most, most, rng.randint(0, most), *wrapped, k, 0]))
+
+
+def make_twice_wrong(rng, shape):
+    """Too few bytes of values, and what is checked just before or after them."""
+    others = [("codes", shape.k - 1), ("costs", shape.k - 1), ("result", 5)]
+    others += [("k", 4097), ("queue", 0), ("queue", 3), ("queue", 8194), ("store", 1)]
+    shape.values = few_values(rng, shape.k)
+    setattr(shape, *rng.choice(others))
 
 
 def make_extreme(rng, shape):
     """One number just at or beyond its border."""
     entries, k = shape.store // 2, min(shape.k, ENTRIES_MOST)
+    few = [few_values(rng, k) for _ in range(5)]
     choices = [("k", n) for n in (0, 4096, 4097, 65536, U32_MOST)]
     choices += [("codes", max(k - 1, 0)), ("codes", rng.randrange(k + 1))]
     choices += [("costs", max(k - 1, 0)), ("costs", rng.randrange(k + 1))]
+    choices += [("values", n) for n in (STATE_BYTES * k, *few)]
     choices += [("result", n) for n in range(9)]
     choices += [("queue", n) for n in (0, 1, 2, 3, 127, 8191, 8192, 8193, 8194)]
     choices += [("store", n) for n in (0, 1, 2, 3, 127, 8191, 8192, 8193, 8194)]
@@ -286,6 +314,7 @@ def lend(rng, shape):
         shape.k,
         junk(rng, shape.codes, 8),
         junk(rng, shape.costs, 4),
+        bytearray(junk(rng, shape.values, 1)),
         junk(rng, shape.queue, 8),
         junk(rng, shape.store, 8),
         shape.held,
@@ -299,6 +328,8 @@ def any_case(rng):
     if rng.random() < 0.2:
         for _ in range(rng.randint(1, 2)):
             make_extreme(rng, shape)
+    elif rng.random() < 0.03:
+        make_twice_wrong(rng, shape)
     damaged = rng.random() < 0.3
     sheet = rng.choice(DAMAGE)(rng, plant) if damaged else encode(plant)
     settings = lend(rng, shape)
@@ -355,5 +386,5 @@ def any_call(rng):
     sheet = rng.choice(DAMAGE)(rng, plant) if damaged else encode(plant)
     kind = rng.randrange(2)
     call = put_limit(rng, Call(kind, sheet, *any_words(rng, plant), 0))
-    conflict = junk(rng, answer_room(rng), 8) if kind else []
-    return CallCase(call, conflict, junk(rng, answer_room(rng), 4), damaged)
+    found = junk(rng, answer_room(rng), 8) if kind else junk(rng, STATE_BYTES, 1)
+    return CallCase(call, found, junk(rng, answer_room(rng), 4), damaged)

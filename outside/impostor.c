@@ -1,18 +1,20 @@
 /* Wrong calls over the right ones, to see that scale.py finds them: IMPOSTOR says
- * which; 1 to 8 and 35 to 37 list, 9 to 13 test, 14 to 19 reduce, 20 to 29 write,
- * 30 to 34 read.
+ * which; 1 to 8 and 35 to 46 list, 9 to 13 and 47 to 50 test, 14 to 19 reduce, 20 to
+ * 29 write, 30 to 34 read.
  * Linked with --wrap for each of the five; no part of the gate. */
 #include "leading.h"
 
+#include <string.h>
+
 #define LENT                                                                   \
     const uint8_t *sheet, size_t sheet_len, uint64_t *codes, size_t codes_len, \
-        uint32_t *costs, size_t costs_len, uint64_t *queue, size_t queue_len,  \
-        uint64_t *store, size_t store_len, uint32_t *result, size_t result_len, \
-        uint32_t k, size_t held, uint32_t limit
+        uint32_t *costs, size_t costs_len, uint8_t *values, size_t values_len, \
+        uint64_t *queue, size_t queue_len, uint64_t *store, size_t store_len,  \
+        uint32_t *result, size_t result_len, uint32_t k, size_t held, uint32_t limit
 
 #define TESTED                                                                        \
     const uint8_t *sheet, size_t sheet_len, uint64_t mask, uint64_t values, uint32_t limit, \
-        uint32_t *result, size_t result_len
+        uint8_t *shown, uint32_t *result, size_t result_len
 
 #define REDUCED                                                                             \
     const uint8_t *sheet, size_t sheet_len, uint64_t mask, uint64_t values, uint32_t limit, \
@@ -51,6 +53,74 @@ static void swap_tie(uint64_t *codes, const uint32_t *costs, uint32_t listed)
         }
 }
 
+static int clauses_hold(const uint8_t *state, const uint8_t *counts, uint32_t clauses,
+                        const uint8_t *literal)
+{
+    for (uint32_t clause = 0; clause < clauses; clause++) {
+        int holds = 0;
+        for (unsigned i = 0; i < counts[clause]; i++, literal += 3)
+            holds |= (state[literal[0]] == literal[2]) != literal[1];
+        if (!holds)
+            return 0;
+    }
+    return 1;
+}
+
+/* The last hidden variable at the last value that fits. */
+static void show_last(const uint8_t *sheet, size_t sheet_len, uint8_t *state)
+{
+    static uint8_t sizes[LEADING_SIZE_ENTRIES], counts[LEADING_COUNT_ENTRIES];
+    static uint8_t literals[LEADING_LITERAL_BYTES];
+    static uint16_t costs[LEADING_COST_ENTRIES];
+    uint32_t numbers[LEADING_NUMBERS_WORDS];
+    __real_leading_read(sheet, sheet_len, sizes, costs, counts, literals, numbers);
+    if (numbers[LEADING_NUMBER_HIDDEN] == 0)
+        return;
+    uint32_t last = numbers[LEADING_NUMBER_PARTS] + numbers[LEADING_NUMBER_HIDDEN] - 1;
+    state[last] = (uint8_t)(sizes[last] - 1);
+    while (!clauses_hold(state, counts, numbers[LEADING_NUMBER_CLAUSES], literals))
+        state[last]--;
+}
+
+static unsigned variables(const uint8_t *sheet)
+{
+    return LEADING_PARTS(sheet) + LEADING_HIDDEN(sheet);
+}
+
+/* What is shown of the listed states. */
+static void show_otherwise(const uint8_t *sheet, size_t sheet_len, uint8_t *values,
+                           size_t values_len, uint32_t listed)
+{
+    size_t beyond = LEADING_VALUES_BYTES(listed);
+    if (IMPOSTOR == 42 && beyond < values_len) /* a byte beyond the listed states */
+        values[beyond] ^= 1;
+    if (listed == 0)
+        return;
+    uint8_t *last = values + LEADING_VALUES_BYTES(listed - 1);
+    if (IMPOSTOR == 38 && listed > 1) /* the values of the state listed before */
+        memcpy(last, last - LEADING_STATE_BYTES, LEADING_STATE_BYTES);
+    if (IMPOSTOR == 39) /* zeros for a consistent state */
+        memset(last, 0, LEADING_STATE_BYTES);
+    if (IMPOSTOR == 40) /* a hidden variable's last value that fits */
+        show_last(sheet, sheet_len, last);
+    if (IMPOSTOR == 41 && variables(sheet) < LEADING_STATE_BYTES) /* beyond the variables */
+        last[variables(sheet)] = 1;
+}
+
+/* Of several grounds to refuse another one. */
+static uint32_t refused_otherwise(uint32_t refused, size_t values_len, size_t queue_len,
+                                  uint32_t k)
+{
+    int queue_bad = queue_len % 2 || queue_len < 2 ||
+                    queue_len > LEADING_QUEUE_WORDS(LEADING_QUEUE_ENTRIES_MOST);
+    int values_bad = values_len < LEADING_VALUES_BYTES(k);
+    if (IMPOSTOR == 43 && refused == LEADING_BAD_OUTPUT && values_bad) /* 19 before 2 */
+        return LEADING_BAD_VALUES_ROOM;
+    if (IMPOSTOR == 44 && refused == LEADING_BAD_VALUES_ROOM && queue_bad) /* 19 after 3 */
+        return LEADING_BAD_QUEUE;
+    return refused;
+}
+
 uint32_t __wrap_leading_list(LENT)
 {
     if (IMPOSTOR == 1) /* the limit is one trial short */
@@ -58,15 +128,19 @@ uint32_t __wrap_leading_list(LENT)
     if (IMPOSTOR == 2) /* offers are forgotten */
         held = held > store_len / 2 ? held : 0;
     if (IMPOSTOR == 37 && 0 < k && k < LEADING_K_MOST && k < codes_len && k < costs_len)
-        k++; /* 'enough' one state late */
+        k += values_len >= LEADING_VALUES_BYTES(k + 1); /* 'enough' one state late */
+    size_t room = values_len + (IMPOSTOR == 45); /* a buffer one byte short is taken */
     uint32_t refused = __real_leading_list(sheet, sheet_len, codes, codes_len, costs, costs_len,
-                                           queue, queue_len, store, store_len, result,
-                                           result_len, k, held, limit);
+                                           values, room, queue, queue_len, store, store_len,
+                                           result, result_len, k, held, limit);
     if (IMPOSTOR == 3 && refused && result_len > 0) /* a refusal writes */
         result[0] = 0;
+    if (IMPOSTOR == 46 && refused && values_len > 0) /* a refusal shows */
+        values[0] ^= 1;
     if (refused)
-        return refused;
+        return refused_otherwise(refused, values_len, queue_len, k);
     uint32_t listed = result[LEADING_LISTED];
+    show_otherwise(sheet, sheet_len, values, values_len, listed);
     if (IMPOSTOR == 4) /* the queue's last word */
         queue[queue_len - 1] ^= 1;
     if (IMPOSTOR == 5 && listed < codes_len) /* a code beyond listed */
@@ -89,10 +163,12 @@ uint32_t __wrap_leading_test(TESTED)
 {
     if (IMPOSTOR == 9) /* no mask bit is beyond the parts */
         mask &= ~(UINT64_MAX >> (sheet_len > 1 ? LEADING_PARTS(sheet) : 0));
-    uint32_t refused = __real_leading_test(sheet, sheet_len, mask, values, limit, result,
+    uint32_t refused = __real_leading_test(sheet, sheet_len, mask, values, limit, shown, result,
                                            result_len);
     if (IMPOSTOR == 10 && refused && result_len > 0) /* a refusal writes */
         result[0] = 0;
+    if (IMPOSTOR == 50 && refused) /* a refusal shows zeros */
+        memset(shown, 0, LEADING_STATE_BYTES);
     if (refused)
         return refused;
     uint32_t *answer = &result[LEADING_ANSWER];
@@ -102,6 +178,13 @@ uint32_t __wrap_leading_test(TESTED)
         *answer = LEADING_TEST_INCONSISTENT;
     if (IMPOSTOR == 13) /* a third result word, lent or not */
         result[LEADING_ANSWER_WORDS] = 0;
+    if (IMPOSTOR == 47 && *answer == LEADING_TEST_INCONSISTENT) /* values of a test that failed */
+        for (unsigned part = 0; part < LEADING_PARTS(sheet); part++)
+            shown[part] = (uint8_t)LEADING_VALUE(values, part);
+    if (IMPOSTOR == 48 && *answer == LEADING_TEST_CONSISTENT) /* zeros for a consistent one */
+        memset(shown, 0, LEADING_STATE_BYTES);
+    if (IMPOSTOR == 49 && variables(sheet) < LEADING_STATE_BYTES) /* a byte beyond the variables */
+        shown[variables(sheet)] = 1;
     return refused;
 }
 

@@ -4,7 +4,8 @@ import sys
 from dataclasses import dataclass
 
 from plant import Refusal, read
-from search import Meter, Spent, reduce_within, test, to_words, well_formed
+from search import STATE_BYTES, Meter, Spent, reduce_within, shown, test, to_words
+from search import well_formed
 
 K_MOST = 4096
 QUEUE_WORDS_MOST = 8192
@@ -21,6 +22,7 @@ class Settings:
     k: int
     codes: list
     costs: list
+    values: bytearray
     queue: list
     store: list
     held: int
@@ -38,6 +40,7 @@ class Result:
     struck_in_reduction: bool
     codes: list
     costs: list
+    values: bytes
     queue: list
     store: list
 
@@ -47,12 +50,14 @@ class Result:
 
 
 def check_host(settings, result_words=RESULT_WORDS):
-    """Refusals 1 to 4, before the sheet."""
+    """Refusals 1, 2, 19, 3 and 4, in this order and before the sheet."""
     s = settings
     if not 1 <= s.k <= K_MOST:
         raise Refusal(1)
     if len(s.codes) < s.k or len(s.costs) < s.k or result_words < RESULT_WORDS:
         raise Refusal(2)
+    if len(s.values) < STATE_BYTES * s.k:
+        raise Refusal(19)
     if len(s.queue) % 2 or not 2 <= len(s.queue) <= QUEUE_WORDS_MOST:
         raise Refusal(3)
     words = len(s.store)
@@ -117,7 +122,7 @@ class Run:
         self.meter = Meter(settings.limit)
         self.queue = []  # pairs of the best state's order and the node
         self.store = []
-        self.listed = []
+        self.listed = []  # the values of all variables of each state
         self.tested = self.learned = self.unkept = 0
         self.reducing = False
 
@@ -156,7 +161,7 @@ class Run:
         found = test(self.plant, state, self.meter)
         self.tested += 1
         if found is not None:
-            self.listed.append(state)
+            self.listed.append(found)
         elif len(self.store) == self.store_entries:
             self.unkept += 1
         else:
@@ -200,8 +205,10 @@ class Run:
 def close(run, ending, settings):
     """The result with every lent word afterwards."""
     count = len(run.listed)
-    codes = [to_words(state)[1] for state in run.listed]
-    costs = [state_cost(run.plant, state) for state in run.listed]
+    states = [found[: run.plant.decisions] for found in run.listed]
+    codes = [to_words(state)[1] for state in states]
+    costs = [state_cost(run.plant, state) for state in states]
+    values = b"".join(map(shown, run.listed))
     store = [word for entry in run.store for word in to_words(entry)]
     return Result(
         ending,
@@ -213,6 +220,7 @@ def close(run, ending, settings):
         run.reducing,
         codes + settings.codes[count:],
         costs + settings.costs[count:],
+        values + settings.values[len(values) :],
         [0] * len(settings.queue),
         store + [0] * (len(settings.store) - len(store)),
     )
@@ -238,7 +246,7 @@ def export(sheet, settings, result_words, kind=Run):
         result = listing(sheet, settings, kind)
     except Refusal as refusal:
         return refusal.number
-    for name in ("codes", "costs", "queue", "store"):
+    for name in ("codes", "costs", "values", "queue", "store"):
         getattr(settings, name)[:] = getattr(result, name)
     result_words[:RESULT_WORDS] = result.words()
     return 0
@@ -246,7 +254,8 @@ def export(sheet, settings, result_words, kind=Run):
 
 def leading(data):
     """What the program `leading` prints for its standard input."""
-    settings = Settings(16, [0] * 16, [0] * 16, [0] * 8192, [0] * 128, 0, 1_000_000)
+    lists = [0] * 16, [0] * 16, bytearray(STATE_BYTES * 16)
+    settings = Settings(16, *lists, [0] * 8192, [0] * 128, 0, 1_000_000)
     try:
         result = listing(data[:11357], settings)
     except Refusal as refusal:

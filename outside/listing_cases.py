@@ -2,10 +2,11 @@
 
 from functools import lru_cache
 from random import Random
-from typing import NamedTuple
+from typing import NamedTuple, Optional
 
-from listing import Run as Steps, Settings, listing, order
+from listing import K_MOST, Run as Steps, Settings, listing, order
 from plant import Literal, Plant, Refusal, encode
+from search import STATE_BYTES
 from shapes import nogood_plant, random_words, shaped, small_random_plant, spoil
 from sheet_cases import (
     LIMIT_MOST,
@@ -19,17 +20,19 @@ from sheet_cases import (
     sheet_bytes,
     with_field,
 )
-from test_cases import tight_plant
+from test_cases import between, middle_plant, tight_plant
 from whole import whole_set
 
 
 class Run(NamedTuple):
-    """A listing; `given` are the words the store begins with."""
+    """A listing; `given` are the words the store begins with. Without a number of
+    bytes of values there are just enough."""
 
     sheet: bytes
     k: int = 16
     codes: int = 16
     costs: int = 16
+    values: Optional[int] = None
     queue: int = 128
     store: int = 32
     held: int = 0
@@ -37,14 +40,21 @@ class Run(NamedTuple):
     given: tuple = ()
 
 
+def enough_values(run):
+    """Bytes for k states; where k is refused for as many as the other lists hold."""
+    return STATE_BYTES * (run.k if 1 <= run.k <= K_MOST else run.codes)
+
+
 def settings_of(run):
     """The lent buffers with the junk the format names."""
+    values = enough_values(run) if run.values is None else run.values
     store = [0x4444444444444444 + i for i in range(run.store)]
     store[: len(run.given)] = run.given
     return Settings(
         run.k,
         [0x1111111111111111 + i for i in range(run.codes)],
         [0x22222222] * run.costs,
+        bytearray([0x55]) * values,
         [0x3333333333333333 + i for i in range(run.queue)],
         store,
         run.held,
@@ -131,9 +141,8 @@ def random_run(rng, plant):
     queue = 2 * rng.choice([1, 2, 3, 4, 6, 10, 20, 64, 64, 64])
     store = 2 * rng.choice([0, 1, 2, 3, 16, 16, 16])
     k = rng.choice([1, 2, 3, 5, 20, 40])
-    run = Run(
-        encode(plant), k, k + rng.randint(0, 4), k + rng.randint(0, 4), queue, store
-    )
+    codes, costs = (k + rng.randint(0, 4) for _ in range(2))
+    run = Run(encode(plant), k, codes, costs, queue=queue, store=store)
     if rng.random() < 0.6:
         learned = learned_by(run._replace(queue=200, store=32))
         run = offering(run, mixed_offers(rng, plant, learned))
@@ -191,12 +200,12 @@ def wide_runs(rng):
     for plant in (binary, zeros, large, singles, alone, last):
         sheet = encode(plant)
         for queue in (2, 34, 600):
-            runs.append(Run(sheet, 6, 6, 8, queue, 40, 0, 4000))
-        runs.append(Run(sheet, 20, 20, 20, 300, 2, 0, 900))
-    runs.append(Run(encode(binary), 3, 3, 3, 600, 40, 0, 60_000))
-    runs.append(Run(encode(longest_plant(rng)), 2, 2, 2, 600, 40, 0, 300))
+            runs.append(Run(sheet, 6, 6, 8, None, queue, 40, 0, 4000))
+        runs.append(Run(sheet, 20, 20, 20, None, 300, 2, 0, 900))
+    runs.append(Run(encode(binary), 3, 3, 3, None, 600, 40, 0, 60_000))
+    runs.append(Run(encode(longest_plant(rng)), 2, 2, 2, None, 600, 40, 0, 300))
     one = Plant(((65535,),) * 16, (), ())
-    runs.append(Run(encode(one), 2, 2, 2, 2, 0, 0, 0))
+    runs.append(Run(encode(one), 2, 2, 2, None, 2, 0, 0, 0))
     return runs
 
 
@@ -222,7 +231,7 @@ def last_state_runs(rng):
         fitting = len(whole_set(plant))
         if not 0 < fitting < 40:
             continue
-        run = Run(encode(plant), fitting, 41, 41, 600, 2 * rng.choice([0, 3, 40]))
+        run = Run(encode(plant), fitting, 41, 41, None, 600, 2 * rng.choice([0, 3, 40]))
         runs += [run, run._replace(k=fitting + 1)]
         if fitting > 1:
             runs.append(run._replace(k=fitting - 1))
@@ -261,10 +270,98 @@ def cheapest_value_runs(rng):
         while len(runs) < enough:
             sizes = [rng.randint(2, 4) for _ in range(rng.randint(2, 4))]
             plant = shaped(rng, sizes, len(sizes), [2] * rng.randint(0, 5), "small")
-            run = Run(encode(plant), 40, 40, 40, 600, 2 * rng.choice([0, 3, 20]))
+            run = Run(encode(plant), 40, 40, 40, None, 600, 2 * rng.choice([0, 3, 20]))
             if answer_with(run, value_of) != answer_run(run):
                 runs.append(run)
     return runs
+
+
+def values_refusal_runs():
+    """Refusal 19 alone, with what is checked before it, and with what is after."""
+    short = Run(encode(SMALL_PLANT), values=767)
+    before = [dict(k=0), dict(k=4097, values=196_656), dict(k=89_478_486, values=32)]
+    before += [dict(codes=15), dict(costs=15), dict(codes=0, costs=0, queue=1)]
+    after = [dict(queue=n) for n in (0, 3, 8194)] + [dict(store=3), dict(held=17)]
+    after += [dict(sheet=sheet) for sheet in (b"", b"\2", short.sheet + b"\0")]
+    after += [dict(queue=1, store=1, sheet=b"\2")]
+    runs = [short] + [short._replace(**change) for change in before + after]
+    # With 768 bytes what is checked afterwards comes to light.
+    runs += [short._replace(values=768, **change) for change in after]
+    return runs + [short._replace(values=n) for n in (0, 1, 16, 47, 48, 720, 766, 768)]
+
+
+def values_length_runs():
+    """Lengths at the border of several k, among them where 8 or 16 bits would wrap."""
+    free = encode(Plant(((0, 1), (0, 1)), (2,), ((Literal(2, 0, 1),),)))
+    runs = []
+    for k in (1, 2, 5, 6, 1366, 4096):
+        run = Run(free, k, k, k)
+        lengths = {0, STATE_BYTES * k & 0xFF, STATE_BYTES * k & 0xFFFF}
+        lengths |= {STATE_BYTES * k - 1, STATE_BYTES * k, STATE_BYTES * k + 1}
+        runs += [run._replace(values=length) for length in sorted(lengths)]
+    return runs
+
+
+def longest_list_run():
+    """4,096 states listed, with hidden variables that are not 0."""
+    first, second = Literal(12, 1, 0), Literal(13, 0, 2)
+    clauses = ((first, Literal(0, 0, 0)), (second, Literal(11, 1, 1)))
+    plant = Plant(((0, 0),) * 12, (3, 3), clauses)
+    return Run(encode(plant), 4096, 4096, 4096, 196_608, queue=64)
+
+
+def spare_values_runs(rng):
+    """Bytes beyond the listed states, and beyond those of k states."""
+    runs = []
+    for spare in (1, 47, 48, 49, 1000):
+        plant = middle_plant(rng, 2)
+        run = Run(encode(plant), values=16 * STATE_BYTES + spare, queue=600)
+        runs += [run, run._replace(k=2), run._replace(limit=answer_run(run).trials // 2)]
+    return runs
+
+
+def shown_runs(rng, hidden):
+    """Listed states with a hidden variable between its first and its last value, the
+    first of them after a test that was inconsistent."""
+    while True:
+        plant = middle_plant(rng, hidden)
+        run = Run(encode(plant), 1, 1, 1, queue=600, store=40, limit=3000)
+        result = answer_run(run)
+        if result.listed and result.tested > 1 and between(plant, result.values):
+            break
+    more = run._replace(k=12, codes=12, costs=13)
+    trials = answer_run(more).trials
+    return [run, run._replace(store=0), more, more._replace(limit=trials - 1)]
+
+
+def nothing_hidden_runs(rng):
+    runs = []
+    for decisions in (1, 2, 5, 16):
+        plant = shaped(rng, [2] * decisions, decisions, [1, 2, 2][:decisions], "small")
+        runs.append(Run(encode(plant), 7, 7, 7, 7 * STATE_BYTES + 5, queue=600))
+    return runs
+
+
+def dropped_offer_runs():
+    """An offer that is consistent, and limits that strike before a state is listed:
+    what an offer's or a reduction's tests find is not shown."""
+    run = offering(Run(encode(SMALL_PLANT)), [(1 << 63, 1 << 60)])
+    return [run._replace(limit=limit) for limit in (1, 2, 3, 4, 7, 13, 14, 15)]
+
+
+def values_runs(rng):
+    runs = values_refusal_runs() + values_length_runs() + [longest_list_run()]
+    runs += dropped_offer_runs() + spare_values_runs(rng) + nothing_hidden_runs(rng)
+    for hidden in (1, 2, 2, 3, 3, 4, 5, 32, 32):
+        runs += shown_runs(rng, hidden)
+    return runs
+
+
+def with_room(place, run):
+    """The run with a number of bytes of values, now and then more than enough."""
+    if run.values is not None:
+        return run
+    return run._replace(values=enough_values(run) + (0, 0, 0, 1, 0, 0, 50)[place % 7])
 
 
 @lru_cache(maxsize=1)
@@ -273,7 +370,9 @@ def listing_cases():
     cases = table_runs() + host_refusal_runs() + author_refusal_runs()
     cases += random_runs(rng) + queue_runs(rng)
     cases += wide_runs(rng) + contradiction_runs(rng)
-    return cases + last_state_runs(Random(404)) + cheapest_value_runs(Random(505))
+    cases += last_state_runs(Random(404)) + cheapest_value_runs(Random(505))
+    cases += values_runs(Random(707))
+    return [with_room(place, run) for place, run in enumerate(cases)]
 
 
 def words_bytes(words, width):
@@ -282,7 +381,7 @@ def words_bytes(words, width):
 
 def lent_checksum(lent):
     """Of every lent word; `lent` are settings before a call, or its result."""
-    data = words_bytes(lent.codes, 8) + words_bytes(lent.costs, 4)
+    data = words_bytes(lent.codes, 8) + words_bytes(lent.costs, 4) + lent.values
     return fnv(data + words_bytes(lent.queue, 8) + words_bytes(lent.store, 8))
 
 
@@ -296,11 +395,12 @@ def run_line(run):
 
 
 def run_bytes(run):
-    lengths = (run.codes, run.costs, run.queue, run.store, run.held)
     return (
         sheet_bytes(run.sheet)
         + run.k.to_bytes(4, "big")
-        + words_bytes(lengths, 2)
+        + words_bytes((run.codes, run.costs), 2)
+        + run.values.to_bytes(4, "big")
+        + words_bytes((run.queue, run.store, run.held), 2)
         + run.limit.to_bytes(4, "big")
         + len(run.given).to_bytes(2, "big")
         + words_bytes(run.given, 8)

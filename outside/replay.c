@@ -17,12 +17,18 @@
 #define GUARD 64 /* bytes before each buffer, and behind it */
 #define GUARD_BYTE 0xa5
 
-enum { BUFFERS_MOST = 6, NUMBERS_MOST = 3 };
+enum { BUFFERS_MOST = 7, NUMBERS_MOST = 3 };
 
 struct lent {
     unsigned char *all;
     size_t bytes;
 };
+
+static void give_up(const char *why)
+{
+    fprintf(stderr, "replay: %s\n", why);
+    exit(2);
+}
 
 /* One of the calls, on buffers with their lengths and its numbers. */
 typedef uint32_t call(void *const *at, const uint64_t *len, const uint64_t *number);
@@ -30,14 +36,16 @@ typedef uint32_t call(void *const *at, const uint64_t *len, const uint64_t *numb
 static uint32_t list(void *const *at, const uint64_t *len, const uint64_t *number)
 {
     return leading_list(at[0], len[0], at[1], len[1], at[2], len[2], at[3], len[3], at[4],
-                        len[4], at[5], len[5], (uint32_t)number[0], number[1],
-                        (uint32_t)number[2]);
+                        len[4], at[5], len[5], at[6], len[6], (uint32_t)number[0],
+                        number[1], (uint32_t)number[2]);
 }
 
 static uint32_t test(void *const *at, const uint64_t *len, const uint64_t *number)
 {
+    if (len[1] != LEADING_STATE_BYTES)
+        give_up("a test is lent 48 bytes");
     return leading_test(at[0], len[0], number[0], number[1], (uint32_t)number[2], at[1],
-                        len[1]);
+                        at[2], len[2]);
 }
 
 static uint32_t reduce(void *const *at, const uint64_t *len, const uint64_t *number)
@@ -63,18 +71,12 @@ static const struct kind {
     call *call;
     size_t buffers, numbers, widths[BUFFERS_MOST];
 } kinds[] = {
-    {list, 6, 3, {1, 8, 4, 8, 8, 4}},        /* sheet, codes, costs, queue, store, result */
-    {test, 2, 3, {1, 4}},                    /* sheet, result */
+    {list, 7, 3, {1, 8, 4, 1, 8, 8, 4}},     /* sheet, codes, costs, values, queue, store, result */
+    {test, 3, 3, {1, 1, 4}},                 /* sheet, shown, result */
     {reduce, 3, 3, {1, 8, 4}},               /* sheet, conflict, result */
     {write_sheet, 6, 3, {1, 2, 1, 1, 1, 4}}, /* sizes, costs, counts, literals, sheet, written */
     {read_sheet, 6, 0, {1, 1, 2, 1, 1, 4}},  /* sheet, sizes, costs, counts, literals, numbers */
 };
-
-static void give_up(const char *why)
-{
-    fprintf(stderr, "replay: %s\n", why);
-    exit(2);
-}
 
 static void take(void *to, size_t bytes)
 {

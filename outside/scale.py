@@ -9,6 +9,7 @@ tables written to sheets and sheets read into tables, in `table_scale.py`.
 import argparse
 import sys
 from collections import Counter
+from copy import copy
 from itertools import combinations
 from math import prod
 from random import Random
@@ -16,28 +17,24 @@ from random import Random
 sys.dont_write_bytecode = True
 
 from cases import REDUCE, TEST, Case, Shape, any_call, any_case, any_plant, junk, lend
-from cases import crowded_plant, put_offers, tied_plant, wide_plant
+from cases import crowded_plant, put_offers, shaft_plant, tied_plant, wide_plant
 from driver import SHOWN_MOST, Answer, Tally, batches, buffers_of, in_words, run_batch
 from listing import ENDINGS, Result, Run, Settings, export, manifests
-from plant import Refusal, encode, read
-from search import Meter, well_formed
+from plant import encode, read
+from search import ANSWER_WORDS, CONFLICT_WORDS, REDUCE_ANSWERS, STATE_BYTES
+from search import TEST_ANSWERS, Meter, reduce_export, test_export, well_formed
 from shapes import nogood_plant, random_words, small_random_plant
 from table_scale import TableTally, report_tables, run_stored, run_tables
-from test_cases import answer_call, tight_plant
-from whole import begins, brute_consistent, check_demand3, check_rest
-from whole import consistent_states, minimal, whole_set
+from test_cases import tight_plant
+from whole import begins, brute_consistent, check_demand3, check_rest, check_shown
+from whole import consistent_states, minimal, shown_at, whole_set
 
 WORK_MOST = 300_000
 TRIALS_MOST = 60_000
 SPACE_MOST = 1500  # values of all variables, run over by brute force
 ROUNDS = 25
 ENDING_NAMES = {number: name for name, number in ENDINGS.items()}
-ANSWERS = {
-    TEST: ("consistent", "inconsistent", "spent"),
-    REDUCE: ("none", "conflict", "spent"),
-}
-ANSWER_WORDS = CONFLICT_WORDS = 2
-SHORT_BUFFER = 2  # the refusal
+ANSWERS = {TEST: list(TEST_ANSWERS), REDUCE: list(REDUCE_ANSWERS)}
 
 
 class TooLong(Exception):
@@ -70,9 +67,8 @@ class Bounded(Run):
 
 
 def copy_of(case):
-    s = case.settings
-    lists = (list(own) for own in (s.codes, s.costs, s.queue, s.store))
-    return Case(case.sheet, Settings(s.k, *lists, s.held, s.limit), list(case.result))
+    own = {name: copy(value) for name, value in vars(case.settings).items()}
+    return Case(case.sheet, Settings(**own), list(case.result))
 
 
 def wanted(case):
@@ -82,25 +78,11 @@ def wanted(case):
     return Answer(returned, 0, buffers_of(own))
 
 
-def answer_to(case):
-    """The outside program's answer to a test or reduction: what it returns, and
-    the conflict and the result as they are afterwards."""
-    conflict, result = list(case.conflict), list(case.result)
-    if len(result) < ANSWER_WORDS or case.kind == REDUCE and len(conflict) < CONFLICT_WORDS:
-        return SHORT_BUFFER, conflict, result
-    try:
-        answer = answer_call(case.call)
-    except Refusal as refusal:
-        return refusal.number, conflict, result
-    result[:ANSWER_WORDS] = ANSWERS[case.kind].index(answer.name) + 1, answer.trials
-    if answer.name == "conflict":
-        conflict[:CONFLICT_WORDS] = answer.found
-    return 0, conflict, result
-
-
 def wanted_call(case):
-    returned, conflict, result = answer_to(case)
-    after = case._replace(conflict=conflict, result=result)
+    """The outside program's answer to a test or reduction."""
+    after = case._replace(found=list(case.found), result=list(case.result))
+    call = reduce_export if case.kind == REDUCE else test_export
+    returned = call(*case.call[1:], after.found, after.result)
     return Answer(returned, 0, buffers_of(after))
 
 
@@ -112,13 +94,20 @@ def result_of(answer):
     number, listed, tested, learned, unkept, trials = answer.words("result")[:6]
     struck = tested == listed + learned + unkept + 1
     counts = (listed, tested, learned, unkept, trials, struck)
-    buffers = map(answer.words, ("codes", "costs", "queue", "store"))
-    return Result(ENDING_NAMES[number], *counts, *buffers)
+    lists = answer.words("codes"), answer.words("costs"), answer.buffers["values"]
+    work = answer.words("queue"), answer.words("store")
+    return Result(ENDING_NAMES[number], *counts, *lists, *work)
 
 
 def list_of(answer):
     listed = answer.words("result")[1]
     return list(zip(answer.words("costs")[:listed], answer.words("codes")[:listed]))
+
+
+def shown_by(answer):
+    """Pairs of a listed state's code and the bytes that show it."""
+    for place, (_, code) in enumerate(list_of(answer)):
+        yield code, shown_at(answer.buffers["values"], place)
 
 
 def check_answer(case, answer, plant):
@@ -131,6 +120,10 @@ def check_answer(case, answer, plant):
         yield f"{name} after {trials} trials"
     if name != "spent" and brute_consistent(states, given) != (number == 1):
         yield f"{name}, and brute force says otherwise"
+    if name == "consistent":
+        yield from check_shown(plant, given, answer.buffers["shown"])
+    elif case.kind == TEST and any(answer.buffers["shown"]):
+        yield f"{name}, and values are shown"
     if name == "conflict":
         conflict = well_formed(plant, *answer.words("conflict")[:CONFLICT_WORDS])
         if not minimal(states, conflict) or not manifests(given, conflict):
@@ -161,9 +154,12 @@ class ListingTally(SearchTally):
     def check_found(self, case, got, plant):
         result = result_of(got)
         self.counts["demand 3"] += 1
+        self.counts["shown"] += result.listed
+        found = [shown_at(result.values, place) for place in range(result.listed)]
+        self.counts["shafts"] += sum(any(own[plant.decisions :]) for own in found)
         self.counts["struck in a reduction"] += result.struck_in_reduction
-        found = check_demand3(result, plant, case.settings)
-        return found + check_rest(result, plant, case.settings)
+        broken = check_demand3(result, plant, case.settings)
+        return broken + check_rest(result, plant, case.settings)
 
 
 class CallTally(SearchTally):
@@ -231,6 +227,7 @@ HISTORY_PLANTS = [
     (25, nogood_plant),
     (15, tight_plant),
     (15, tied_plant),
+    (20, shaft_plant),
     (5, wide_plant),
     (3, crowded_plant),
 ]
@@ -261,6 +258,7 @@ class History:
         self.sheet = encode(self.plant)
         self.left = []
         self.lists = []
+        self.shown = {}  # by code, what the runs show of the state
 
     def offers(self, others):
         """Its own memory, another sheet's, junk, or none."""
@@ -285,7 +283,9 @@ class History:
         held = min(store // 2, len(offers))
         few = [rng.randrange(30), rng.randrange(300), rng.randrange(3000)]
         limit = rng.choice(few + [20_000] * 5)
-        return Shape(k, k + rng.randrange(3), k + rng.randrange(3), queue, store, 6, held, limit)
+        codes, costs = (k + rng.randrange(3) for _ in range(2))
+        values = STATE_BYTES * k + rng.choice([0, 0, 1, 60])
+        return Shape(k, codes, costs, values, queue, store, 6, held, limit)
 
     def next_case(self, others, tally):
         while True:
@@ -301,6 +301,8 @@ class History:
     def take(self, answer):
         self.left = answer.words("store")
         self.lists.append(list_of(answer))
+        for code, own in shown_by(answer):
+            self.shown.setdefault(code, []).append(own)
 
 
 def run_round(driver, histories, place, tally):
@@ -322,6 +324,17 @@ def hold_together(history, tally):
                 print(f"scale: {history.name}: runs {i} and {j}: no list begins the other")
 
 
+def show_alike(history, tally):
+    """What its runs show of one state is the same."""
+    for code, own in history.shown.items():
+        tally.counts["shown again"] += len(own) - 1
+        if len(set(own)) > 1:
+            tally.counts["differences"] += 1
+            tally.counts["shown apart"] += 1
+            if tally.counts["shown apart"] <= SHOWN_MOST:
+                print(f"scale: {history.name}: two runs show the state {code:016x} otherwise")
+
+
 def run_histories(driver, seed, sheets, tally):
     for batch in batches(range(sheets)):
         histories = [History(seed, number) for number in batch]
@@ -330,6 +343,7 @@ def run_histories(driver, seed, sheets, tally):
         for history in histories:
             tally.counts["runs"] += len(history.lists)
             hold_together(history, tally)
+            show_alike(history, tally)
 
 
 # ---- command line ----------------------------------------------------------
@@ -339,7 +353,7 @@ def report_calls(tally):
     c = tally.counts
     print(
         f"scale: {c['cases']} tests and reductions, {c['damaged']} of damaged sheets "
-        f"({c['damaged and read']} of these ran), {c['words']} lent words compared\n"
+        f"({c['damaged and read']} of these ran), {c['words']} lent words and bytes compared\n"
         f"scale: tests: {in_words(tally.answers[TEST])}; "
         f"reductions: {in_words(tally.answers[REDUCE])}; "
         f"the most trials {c['most trials']}\n"
@@ -353,15 +367,17 @@ def report(tally, sheets):
     c = tally.counts
     print(
         f"scale: {c['cases']} cases, {c['damaged']} of damaged sheets "
-        f"({c['damaged and read']} of these ran), {c['words']} lent words compared; "
+        f"({c['damaged and read']} of these ran), {c['words']} lent words and bytes compared; "
         f"{c['left out']} left out as too long for the outside lister\n"
         f"scale: endings: {in_words(tally.endings)}; {c['all with k']} of 'all' with k "
         f"listed; the longest list {c['longest']}\n"
         f"scale: refusals: {in_words(tally.refusals)}\n"
         f"scale: demand 3 checked on {c['demand 3']} runs, "
-        f"in {c['struck in a reduction']} the limit struck in a reduction\n"
+        f"in {c['struck in a reduction']} the limit struck in a reduction; {c['shown']} "
+        f"states shown, {c['shafts']} with a hidden variable that is not 0\n"
         f"scale: histories: {sheets} sheets, {c['runs']} of the cases, "
-        f"{c['pairs']} pairs of lists, {c['pairs not empty']} with neither empty\n"
+        f"{c['pairs']} pairs of lists, {c['pairs not empty']} with neither empty; "
+        f"{c['shown again']} states listed again\n"
         f"scale: {c['differences']} differences"
     )
 

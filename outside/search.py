@@ -1,4 +1,5 @@
-"""Assignments, the consistency test with its trials, and the reduction.
+"""Assignments, the consistency test with its trials and the values it shows, and
+the reduction.
 
 An assignment is a tuple over the D decision variables, None where a variable
 is unassigned; the two words of docs/SPECIFICATION.md are met only at the edges.
@@ -10,6 +11,10 @@ from plant import Refusal, read
 
 WORD_BITS = 64
 NIBBLES = 16
+STATE_BYTES = 48  # one for each of the most variables
+ANSWER_WORDS = CONFLICT_WORDS = 2
+TEST_ANSWERS = {"consistent": 1, "inconsistent": 2, "spent": 3}
+REDUCE_ANSWERS = {"none": 1, "conflict": 2, "spent": 3}
 
 
 class Spent(Exception):
@@ -88,11 +93,16 @@ def descend(plant, setting, meter):
 
 
 def test(plant, assignment, meter):
-    """Values of all variables that make every clause hold, or None."""
+    """The values of all variables at the first complete success, or None."""
     setting = list(assignment) + [None] * len(plant.state_sizes)
     if any(is_false(clause, setting) for clause in plant.clauses):
         return None
     return tuple(setting) if descend(plant, setting, meter) else None
+
+
+def shown(found):
+    """A byte for each variable, zero beyond them; zeros where nothing is found."""
+    return bytes(found or ()).ljust(STATE_BYTES, b"\0")
 
 
 def reduce_within(plant, conflict, meter):
@@ -136,3 +146,30 @@ def reduce_call(sheet, mask, values, limit):
     except Spent:
         return Answer("spent", meter.trials)
     return Answer("conflict", meter.trials, to_words(conflict))
+
+
+def test_export(sheet, mask, values, limit, lent, result):
+    """The refusal's number, or 0 with the 48 lent bytes and the result rewritten."""
+    if len(result) < ANSWER_WORDS:
+        return 2
+    try:
+        answer = test_call(sheet, mask, values, limit)
+    except Refusal as refusal:
+        return refusal.number
+    lent[:] = shown(answer.found)
+    result[:ANSWER_WORDS] = TEST_ANSWERS[answer.name], answer.trials
+    return 0
+
+
+def reduce_export(sheet, mask, values, limit, conflict, result):
+    """The refusal's number, or 0 with the lent words rewritten."""
+    if len(result) < ANSWER_WORDS or len(conflict) < CONFLICT_WORDS:
+        return 2
+    try:
+        answer = reduce_call(sheet, mask, values, limit)
+    except Refusal as refusal:
+        return refusal.number
+    if answer.found:
+        conflict[:CONFLICT_WORDS] = answer.found
+    result[:ANSWER_WORDS] = REDUCE_ANSWERS[answer.name], answer.trials
+    return 0

@@ -3,8 +3,8 @@
 from random import Random
 from typing import NamedTuple
 
-from plant import Refusal, encode
-from search import reduce_call, test_call, to_words
+from plant import Literal, Plant, Refusal, encode
+from search import reduce_call, shown, test_call, to_words
 from shapes import (
     random_assignment,
     random_sizes,
@@ -17,6 +17,7 @@ from sheet_cases import (
     LIMIT_MOST,
     SMALL_PLANT,
     end_damage,
+    fnv,
     header_damage,
     literal_damage,
     longest_plant,
@@ -150,21 +151,69 @@ def refused_sheet_calls(rng):
     return [Call(p % 2, s, *rng.choice(words), 50) for p, s in enumerate(sheets)]
 
 
+def middle_clauses(rng, sizes, decisions):
+    """Hidden variables kept from their low values, some by the variable before."""
+    clauses = []
+    for variable in range(decisions, len(sizes)):
+        for value in range(rng.randrange(sizes[variable] - 1)):
+            before = Literal(variable - 1, rng.randrange(2), 0)
+            own = Literal(variable, 1, value)
+            clauses.append((own, before) if rng.random() < 0.4 else (own,))
+    return clauses
+
+
+def middle_plant(rng, hidden):
+    """Its first successes often have hidden variables between first and last value."""
+    decisions = rng.randint(1, 4) if hidden < 32 else 16
+    sizes = random_sizes(rng, decisions, 3) + [rng.randint(3, 5) for _ in range(hidden)]
+    lengths = [rng.choice([2, 3]) for _ in range(rng.randint(2, 5))]
+    plant = shaped(rng, sizes, decisions, lengths, "small")
+    clauses = plant.clauses + tuple(middle_clauses(rng, sizes, decisions))
+    return Plant(plant.costs, plant.state_sizes, clauses)
+
+
+def between(plant, found):
+    """Whether a hidden variable is neither at its first nor at its last value."""
+    hidden = found[plant.decisions :]
+    return any(0 < value < size - 1 for value, size in zip(hidden, plant.state_sizes))
+
+
+def shown_calls(rng):
+    """Tests that show values between the first and the last; with all decision
+    variables given, with some and with none; and the tests of a limit too low."""
+    calls = []
+    while len(calls) < 80:
+        plant = middle_plant(rng, rng.choice([1, 2, 3, 3, 4, 32]))
+        words = random_words(rng, plant, rng.choice([0.0, 0.5, 1.0]))
+        call = Call(0, encode(plant), *words, 20_000)
+        answer = answer_call(call)
+        if answer.name == "consistent" and between(plant, answer.found):
+            calls += limits_around(rng, call)[:3]
+    return calls
+
+
 def test_cases():
     rng = Random(202)
     cases = well_formed_calls(rng) + consistent_calls(rng) + conflict_calls(rng)
-    return cases + ill_formed_calls(rng) + refused_sheet_calls(rng)
+    cases += ill_formed_calls(rng) + refused_sheet_calls(rng)
+    return cases + shown_calls(Random(606))
 
 
-def call_line(call):
+def answered(call):
+    """What the answer says, and the values that were found."""
     try:
         answer = answer_call(call)
     except Refusal as refusal:
-        return f"refused {refusal.number}"
+        return f"refused {refusal.number}", None
     if answer.name == "conflict":
         mask, values = answer.found
-        return f"conflict {mask:016x} {values:016x} {answer.trials}"
-    return f"{answer.name} {answer.trials}"
+        return f"conflict {mask:016x} {values:016x} {answer.trials}", None
+    return f"{answer.name} {answer.trials}", answer.found
+
+
+def call_line(call):
+    words, found = answered(call)
+    return words if call.kind else f"{words} {fnv(shown(found))}"
 
 
 def call_bytes(call):

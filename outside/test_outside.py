@@ -15,8 +15,9 @@ import table_cases
 import test_cases
 import vectors
 from listing import Run, Settings, best_state, export, leading, listing, order
-from plant import Plant, Refusal, encode, fields, pack, read
-from search import Meter, is_false, reduce_call, reduce_within, test, test_call
+from plant import Literal, Plant, Refusal, encode, fields, pack, read
+from search import Meter, is_false, reduce_call, reduce_export, reduce_within, shown
+from search import test, test_call, test_export, well_formed
 from shapes import nogood_plant, random_assignment, random_words
 from shapes import small_random_plant, spoil
 from tables import Tables, grounds, read_tables, sheet_of, tables_of
@@ -26,9 +27,12 @@ from whole import (
     brute_consistent,
     check_demand3,
     check_rest,
+    check_shown,
     consistent_states,
+    first_success,
     minimal,
     run_list,
+    shown_at,
     whole_set,
 )
 
@@ -41,7 +45,8 @@ def set_up(k=16, queue=4096, store=64, offers=(), limit=1_000_000):
     """The program's settings, queue and store in entries."""
     words = [word for offer in offers for word in offer]
     words += [0] * (2 * store - len(words))
-    return Settings(k, [0] * k, [0] * k, [0] * 2 * queue, words, len(offers), limit)
+    lists = [0] * k, [0] * k, bytearray(48 * k)
+    return Settings(k, *lists, [0] * 2 * queue, words, len(offers), limit)
 
 
 def refusal_of(call, *arguments):
@@ -286,6 +291,11 @@ class Search(unittest.TestCase):
             self.assertIsNone(refusal_of(call, SMALL, 3 << 62, 0x11 << 56, 9))
 
 
+def changed(settings, change):
+    vars(settings).update(change)
+    return settings
+
+
 def random_settings(rng, plant):
     """Random settings over random junk, with offers of every kind."""
     k = rng.choice([1, 2, 3, 6, 40])
@@ -302,6 +312,7 @@ def random_settings(rng, plant):
         k,
         [rng.getrandbits(64) for _ in range(k + rng.randrange(3))],
         [rng.getrandbits(32) for _ in range(k + rng.randrange(3))],
+        bytearray(rng.randbytes(48 * k + rng.choice([0, 0, 1, 60]))),
         [rng.getrandbits(64) for _ in range(queue)],
         words,
         held,
@@ -355,9 +366,9 @@ class Listings(unittest.TestCase):
         changes += [(2, dict(costs=[0] * 15)), (3, dict(queue=[])), (3, dict(queue=[0] * 3))]
         changes += [(3, dict(queue=[0] * 8194)), (4, dict(store=[0])), (4, dict(held=65))]
         changes += [(4, dict(store=[0] * 8194)), (1, dict(k=0, queue=[]))]
+        changes += [(19, dict(values=bytearray(n))) for n in (0, 16, 767)]
         for number, change in changes:
-            settings = set_up()
-            vars(settings).update(change)
+            settings = changed(set_up(), change)
             self.assertEqual(number, refusal_of(listing, b"", settings))
 
     def test_export(self):
@@ -370,6 +381,7 @@ class Listings(unittest.TestCase):
         self.assertEqual(0, export(SMALL, settings, words))
         self.assertEqual([2, 3, 4, 1, 0, 15, 7, 7], words)
         self.assertEqual([code for _, code in P1_LIST], settings.codes[:3])
+        self.assertEqual([1, 48, 96, 97], [p for p, v in enumerate(settings.values) if v])
 
 
 class Counted(Run):
@@ -473,6 +485,205 @@ class CheapestValues(unittest.TestCase):
             self.assertLess(10, told_apart(value_of), name)
 
 
+JUNK = b"\x55"
+FAULTS = {  # a setting that is refused, by its number; in the order of the checks
+    1: dict(k=0),
+    2: dict(costs=[0] * 15),
+    19: dict(values=bytearray(767)),
+    3: dict(queue=[0]),
+    4: dict(held=65),
+}
+
+# Listed with costs 1, 2 and 3 after a test of both at 0 that fails. The first of the
+# hidden variables is never 0, the second not where the first part is 1.
+SHAFTS = Plant(
+    ((0, 1), (0, 2)),
+    (4, 3),
+    (
+        (Literal(2, 1, 0),),
+        (Literal(0, 0, 0), Literal(3, 1, 0)),
+        (Literal(0, 1, 0), Literal(1, 1, 0), Literal(2, 0, 0)),
+    ),
+)
+SHAFTS_SHOWN = [(1, 0, 1, 1), (0, 1, 1, 0), (1, 1, 1, 1)]
+
+
+def junk_set_up(**numbers):
+    settings = set_up(**numbers)
+    settings.values = bytearray(JUNK * len(settings.values))
+    return settings
+
+
+class ShownValues(unittest.TestCase):
+    """Request L4: the values of all variables at the first complete success."""
+
+    def test_first_success(self):
+        """By brute force, on assignments of none, some and all decision variables."""
+        rng = Random(12)
+        seen = set()
+        for place in range(400):
+            plant = small_random_plant(rng, 300)
+            if place % 2:
+                plant = test_cases.middle_plant(rng, rng.randint(0, 3))
+            assignment = random_assignment(rng, plant, rng.choice([0.0, 0.5, 1.0]))
+            found = test(plant, assignment, Meter(10**6))
+            self.assertEqual(first_success(plant, assignment), found)
+            if found:
+                self.assertEqual([], list(check_shown(plant, assignment, shown(found))))
+                self.assertEqual(bytes(48 - len(found)), shown(found)[len(found) :])
+                seen.add((test_cases.between(plant, found), None in assignment))
+        self.assertEqual(set(product((True, False), repeat=2)), seen)
+
+    def test_test_export(self):
+        """48 bytes of junk: the values, zeros for another answer, or as they were."""
+        rng = Random(13)
+        seen = set()
+        for _ in range(300):
+            plant = small_random_plant(rng, 200)
+            words = random_words(rng, plant)
+            if rng.random() < 0.2:
+                words = spoil(rng, plant, words)
+            lent, result = bytearray(JUNK * 48), [7] * 3
+            call = encode(plant), *words, rng.choice([0, 3, 10**6])
+            number = test_export(*call, lent, result)
+            self.assertEqual(7, result[2])
+            seen.add((number, result[0]))
+            if number:
+                self.assertEqual((JUNK * 48, [7] * 3), (lent, result))
+            else:
+                self.assertEqual(shown(test_call(*call).found), lent)
+                self.assertTrue(result[0] == 1 or not any(lent))
+        self.assertEqual({(0, 1), (0, 2), (0, 3), (14, 7), (15, 7)}, seen)
+
+    def test_short_result(self):
+        """A result too short is refused before the sheet, and nothing is written."""
+        for sheet in (SMALL, b""):
+            lent = bytearray(JUNK * 48)
+            self.assertEqual(2, test_export(sheet, 0, 0, 99, lent, [7]))
+            self.assertEqual(JUNK * 48, lent)
+            self.assertEqual(2, reduce_export(sheet, 0, 0, 99, [7], [7, 7]))
+
+    def test_refusal_order(self):
+        """19 comes right after 2, before 3, 4 and the sheet's own."""
+        for size in (1, 2, 3, 4, 5):
+            for numbers in combinations(FAULTS, size):
+                for sheet in (SMALL, b"", b"\2"):
+                    settings = junk_set_up()
+                    for number in numbers:
+                        changed(settings, FAULTS[number])
+                    before = repr(settings)
+                    self.assertEqual(numbers[0], refusal_of(listing, sheet, settings))
+                    self.assertEqual(numbers[0], export(sheet, settings, [7] * 6))
+                    self.assertEqual(before, repr(settings))
+        short = changed(junk_set_up(), FAULTS[19])
+        self.assertEqual([2, 19], [export(SMALL, short, [7] * words) for words in (5, 6)])
+
+    def test_length(self):
+        """48 times k bytes are enough, and one byte less is refused."""
+        for k in (1, 2, 5, 6, 16, 1365, 1366, 4096):
+            for length, number in [(48 * k, None), (48 * k - 1, 19), (k, 19), (0, 19)]:
+                settings = changed(set_up(k, 8), dict(values=bytearray(length)))
+                self.assertEqual(number, refusal_of(listing, SMALL, settings))
+
+    def test_lent_bytes(self):
+        """Each listed state's bytes in their place, and junk beyond the last."""
+        wanted = [bytes(values).ljust(48, b"\0") for values in SHAFTS_SHOWN]
+        for k in (1, 2, 3, 4):
+            for spare in (0, 1, 47, 48, 500):
+                settings = junk_set_up(k=k, queue=8, store=4)
+                settings.values += JUNK * spare
+                result = listing(encode(SHAFTS), settings)
+                own = b"".join(wanted[: result.listed])
+                self.assertEqual(min(k, 3), result.listed)
+                self.assertEqual(own + JUNK * (48 * k + spare - len(own)), result.values)
+
+    def test_nothing_listed(self):
+        """Tests of offers and of reductions succeed, and no byte changes."""
+        offers = [(1 << 63, 1 << 60)]
+        for limit in range(14):
+            settings = junk_set_up(offers=offers, limit=limit)
+            result = listing(SMALL, settings)
+            self.assertEqual((0, "spent"), (result.listed, result.ending))
+            self.assertEqual(JUNK * 768, result.values)
+
+    def test_same_state(self):
+        """Two runs that list one state show the same of it."""
+        rng = Random(14)
+        alike = 0
+        for _ in range(120):
+            plant = test_cases.middle_plant(rng, rng.randint(1, 3))
+            seen = {}
+            for _ in range(3):
+                result = listing(encode(plant), random_settings(rng, plant))
+                for place, code in enumerate(result.codes[: result.listed]):
+                    own = shown_at(result.values, place)
+                    alike += code in seen
+                    self.assertEqual(own, seen.setdefault(code, own))
+        self.assertLess(100, alike)
+
+
+def put(place, values):
+    """Writes these values at a place."""
+
+    def change(buffer):
+        buffer[place : place + len(values)] = values
+
+    return change
+
+
+def copy(place, source):
+    """Shows at one place of the list what another one shows."""
+
+    def change(buffer):
+        buffer[48 * place : 48 * place + 48] = shown_at(buffer, source)
+
+    return change
+
+
+class ValueImpostors(unittest.TestCase):
+    """Demand 3's check complains of each of these, and says why."""
+
+    def complaints(self, change):
+        settings = junk_set_up(k=5, queue=8, store=4)
+        result = listing(encode(SHAFTS), settings)
+        self.assertEqual([], check_demand3(result, SHAFTS, settings))
+        self.assertEqual(SHAFTS_SHOWN, [tuple(result.values[p : p + 4]) for p in (0, 48, 96)])
+        result.values = bytearray(result.values)
+        change(result.values)
+        return check_demand3(result, SHAFTS, settings)
+
+    def test_complaints(self):
+        for why, change in [
+            ("the values do not agree", copy(1, 0)),
+            ("the values break a clause", put(0, bytes(48))),
+            ("the values are not the first", put(2, [3])),
+            ("the values are not the first", put(3, [2])),
+            ("the values break a clause", put(0, [0, 0, 3, 0])),
+            ("the values are not the first", put(96, JUNK * 48)),
+            ("a value is outside", put(48, JUNK * 48)),
+            ("a value is outside", put(2, [4])),
+            ("a byte beyond the variables", put(4, [1])),
+            ("a byte beyond the variables", put(143, [1])),
+            ("values beyond the listed", put(144, [0])),
+            ("values beyond the listed", put(239, [0])),
+            ("values changed its length", put(240, [0])),
+        ]:
+            complaints = self.complaints(change)
+            self.assertTrue(any(c.startswith(why) for c in complaints), (why, complaints))
+
+    def test_agreement(self):
+        """Values that satisfy every clause, of a state that is not the code's."""
+        found = self.complaints(copy(2, 1))
+        self.assertIn("the values do not agree with what was assigned", found)
+        self.assertNotIn("the values break a clause", found)
+
+    def test_exchanged(self):
+        def exchange(buffer):
+            buffer[:96] = buffer[48:96] + buffer[:48]
+
+        self.assertNotEqual([], self.complaints(exchange))
+
+
 class Impostors(unittest.TestCase):
     """Demand 3's check complains of each of these."""
 
@@ -535,7 +746,7 @@ class Stream:
         return test_cases.Call(kind, self.block(), *map(self.number, (8, 8, 4)))
 
     def run(self):
-        lent = self.block(), *map(self.number, (4, 2, 2, 2, 2, 2, 4))
+        lent = self.block(), *map(self.number, (4, 2, 2, 4, 2, 2, 2, 4))
         given = tuple(self.number(8) for _ in range(self.number(2)))
         return listing_cases.Run(*lent, given)
 
@@ -574,9 +785,29 @@ class Vectors(unittest.TestCase):
                 seen.add((result.ending, result.struck_in_reduction))
                 if result.listed == settings.k == len(whole_set(plant)):
                     seen.add((result.ending, "last"))
-        self.assertLessEqual({*range(1, 14), ("spent", False), ("spent", True)}, seen)
+        self.assertLessEqual({*range(1, 14), 19, ("spent", False), ("spent", True)}, seen)
         self.assertLessEqual({("enough", False), ("all", False), ("full", False)}, seen)
         self.assertLessEqual({("enough", "last"), ("all", "last")}, seen)
+
+    def test_values(self):
+        """What the listings show of hidden variables, and the lengths lent for it."""
+        seen, lengths = set(), set()
+        for run in listing_cases.listing_cases():
+            self.assertLessEqual(run.values, 196_700)
+            lengths.add((run.k, run.values - 48 * run.k))
+            if refusal_of(listing_cases.answer_run, run) is None:
+                result, plant = listing_cases.answer_run(run), read(run.sheet)
+                hidden = len(plant.state_sizes)
+                for place in range(min(result.listed, 40)):
+                    found = shown_at(result.values, place)
+                    seen.add((hidden in (0, 32) and hidden, test_cases.between(plant, found)))
+                if result.listed == run.k == 1 < result.tested:
+                    seen.add("listed after a failure")
+                if result.listed == 4096:
+                    seen.add("the longest list")
+        self.assertLessEqual({"listed after a failure", "the longest list"}, seen)
+        self.assertLessEqual({(False, True), (0, False), (32, True), (32, False)}, seen)
+        self.assertLessEqual(set(product((1, 2, 16, 4096), (-1, 0, 1))), lengths)
 
     def test_sheets(self):
         cases = sheet_cases.sheet_cases()
@@ -589,6 +820,24 @@ class Vectors(unittest.TestCase):
         lines = {test_cases.call_line(call).split()[0] for call in test_cases.test_cases()}
         names = {"refused", "consistent", "inconsistent", "spent", "none", "conflict"}
         self.assertEqual(names, lines)
+
+    def test_shown(self):
+        """A test's line ends with the checksum of what brute force shows, or of zeros."""
+        zeros = sheet_cases.fnv(bytes(48))
+        seen = set()
+        for call in test_cases.test_cases():
+            name, *words = test_cases.call_line(call).split()
+            if call.kind == 0:
+                self.assertEqual(2, len(words))
+                self.assertTrue(name == "consistent" or words[1] == zeros)
+                seen.add((name, words[1] == zeros))
+            elif name != "conflict":
+                self.assertEqual(1, len(words))
+            plant = small_space(call)
+            if plant and name == "consistent":
+                first = first_success(plant, well_formed(plant, call.mask, call.values))
+                self.assertEqual(sheet_cases.fnv(shown(first)), words[1])
+        self.assertLessEqual({("consistent", True), ("consistent", False)}, seen)
 
     def test_tables(self):
         cases = table_cases.table_cases()

@@ -9,7 +9,7 @@ from itertools import product
 from math import prod
 
 from plant import Refusal
-from search import to_words, well_formed
+from search import STATE_BYTES, to_words, well_formed
 
 
 def holds(clause, setting):
@@ -19,20 +19,46 @@ def holds(clause, setting):
     return False
 
 
+@lru_cache(maxsize=32)
+def successes(plant):
+    """All values of all variables that make every clause hold. They are run over in
+    trial order: by number, each from 0, the last variable's turning first."""
+    every = product(*(range(size) for size in plant.sizes))
+    return [setting for setting in every if all(holds(c, setting) for c in plant.clauses)]
+
+
 @lru_cache(maxsize=256)
+def first_of_each(plant):
+    """For each full consistent assignment its first success."""
+    first = {}
+    for setting in successes(plant):
+        first.setdefault(setting[: plant.decisions], setting)
+    return first
+
+
 def consistent_states(plant):
-    """All full consistent assignments, in no order that matters."""
-    states = []
-    for state in product(*(range(size) for size in plant.sizes[: plant.decisions])):
-        hidden = product(*(range(size) for size in plant.state_sizes))
-        if any(all(holds(c, state + h) for c in plant.clauses) for h in hidden):
-            states.append(state)
-    return states
+    """All full consistent assignments."""
+    return list(first_of_each(plant))
+
+
+def agrees(assignment, setting):
+    return all(a is None or a == s for a, s in zip(assignment, setting))
+
+
+def first_success(plant, assignment):
+    """The first values that agree with the assignment; None where there are none."""
+    if None not in assignment:
+        return first_of_each(plant).get(assignment)
+    return next((s for s in successes(plant) if agrees(assignment, s)), None)
+
+
+def state_of_code(plant, code):
+    return tuple(int(digit, 16) for digit in f"{code:016x}"[: plant.decisions])
 
 
 def cost_of_code(plant, code):
-    digits = f"{code:016x}"
-    return sum(costs[int(digit, 16)] for costs, digit in zip(plant.costs, digits))
+    state = state_of_code(plant, code)
+    return sum(costs[value] for costs, value in zip(plant.costs, state))
 
 
 @lru_cache(maxsize=256)
@@ -46,14 +72,17 @@ def begins(short, long):
     return len(short) <= len(long) and all(a == b for a, b in zip(short, long))
 
 
+def shown_at(values, place):
+    """The bytes of the state at this place of the list."""
+    return bytes(values[STATE_BYTES * place : STATE_BYTES * (place + 1)])
+
+
 def run_list(result):
     return list(zip(result.costs, result.codes))[: result.listed]
 
 
 def brute_consistent(states, assignment):
-    return any(
-        all(a is None or a == s for a, s in zip(assignment, state)) for state in states
-    )
+    return any(agrees(assignment, state) for state in states)
 
 
 def entries(words):
@@ -131,6 +160,33 @@ def check_store(result, plant, settings):
         yield "a learned conflict is not minimal"
 
 
+def check_shown(plant, assignment, own):
+    """What the 48 bytes shown break, of a consistent assignment to decision variables."""
+    values = tuple(own[: len(plant.sizes)])
+    if len(own) != STATE_BYTES:
+        yield "the values are not 48 bytes"
+        return
+    if any(own[len(values) :]):
+        yield "a byte beyond the variables is not zero"
+    if any(value >= size for value, size in zip(values, plant.sizes)):
+        yield "a value is outside its domain"
+    if not all(holds(clause, values) for clause in plant.clauses):
+        yield "the values break a clause"
+    if not agrees(assignment, values):
+        yield "the values do not agree with what was assigned"
+    if values != first_success(plant, assignment):
+        yield "the values are not the first that fit"
+
+
+def check_values(result, plant, settings):
+    for place, code in enumerate(result.codes[: result.listed]):
+        state = state_of_code(plant, code)
+        yield from check_shown(plant, state, shown_at(result.values, place))
+    beyond = STATE_BYTES * result.listed
+    if result.values[beyond:] != settings.values[beyond:]:
+        yield "values beyond the listed states changed"
+
+
 def check_buffers(result, settings):
     if result.queue != [0] * len(settings.queue):
         yield "the queue is not zero"
@@ -138,8 +194,9 @@ def check_buffers(result, settings):
         yield "codes beyond listed changed"
     if result.costs[result.listed :] != settings.costs[result.listed :]:
         yield "costs beyond listed changed"
-    if len(result.codes) != len(settings.codes) or len(result.costs) != len(settings.costs):
-        yield "a lent buffer changed its length"
+    for name in ("codes", "costs", "values"):
+        if len(getattr(result, name)) != len(getattr(settings, name)):
+            yield f"{name} changed its length"
 
 
 def check_demand3(result, plant, settings):
@@ -148,6 +205,7 @@ def check_demand3(result, plant, settings):
         *check_list(result, plant, settings),
         *check_counts(result),
         *check_store(result, plant, settings),
+        *check_values(result, plant, settings),
         *check_buffers(result, settings),
     ]
 

@@ -1,6 +1,7 @@
 // The text that the program `leading` prints for a sheet, made in a lent buffer: a line for each of the sixteen leading
 // states of its plant, then how the run ended; or the number of the refusal.
 use judge::Ending;
+use limits::STATE_BYTES;
 use lines::put_counts;
 use lines::put_refusal;
 use lines::put_states;
@@ -68,6 +69,7 @@ pub fn leading_text(sheet: &[u8], out: &mut [u8; TEXT_BYTES]) -> usize
 {
     let mut codes = [0u64; WANTED_STATES];
     let mut costs = [0u32; WANTED_STATES];
+    let mut values = [0u8; STATE_BYTES * WANTED_STATES];
     let mut queue = [0u64; QUEUE_WORDS];
     let mut store = [0u64; STORE_WORDS];
     match listing_call::list(
@@ -75,6 +77,7 @@ pub fn leading_text(sheet: &[u8], out: &mut [u8; TEXT_BYTES]) -> usize
         WANTED_STATES as u32,
         &mut codes,
         &mut costs,
+        &mut values,
         &mut queue,
         &mut store,
         0,

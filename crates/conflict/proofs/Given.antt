@@ -1,15 +1,17 @@
 -- From the tables of a plant and two words to what the consistency test is given, and from what it answers to the model's test. Assumes nothing.
-use mathlib.Core.Path.{_≡_, refl, ap, _∙_}
+use mathlib.Core.Path.{_≡_, refl, sym, ap, _∙_}
 use mathlib.Core.Option.{Option, none}
 use mathlib.Core.List.{List, [], _++_, map}
-use Prim.Native.Nat.{ℕ, _-_, _≤_}
+use Prim.Native.Nat.{ℕ, zero, suc, _-_, _≤_}
 use native.Mathlib.Omega.{arith}
 use native.Mathlib.Decide.{decLt}
+use native.Mathlib.Numerals.{unary-clauses}
 use lib.ListN.{length, getD, take, drop, replicate, length-drop, length-map, length-append, length-replicate, List·getD-eq-default}
-use lib.Seq.{length-take-le, take-at}
+use lib.Seq.{length-take-le, take-at, drop-at}
 use Rattle.model.specs.Sheet.{Plant, edition1, decisionSizes}
 use Rattle.model.specs.Assignment.{Assignment, Valid, assignmentOf}
-use Rattle.model.specs.Consistency.{Tested, test, overAll}
+use Rattle.model.specs.Consistency.{Tested, consistent, inconsistent, test, overAll}
+use Rattle.model.specs.Calls.{stateBytes, valueBytes, shownBy}
 use Rattle.theory.specs.Plant.{Sized}
 use Rattle.model.specs.Tables.{clauses}
 use Rattle.theory.specs.Tables.{Tabled}
@@ -26,6 +28,7 @@ use Rattle.trials.specs.Answers.{testOver, answerOf, leaves, Ended}
 use Rattle.consistency.specs.Given.{Given}
 use Rattle.consistency.proofs.Callers.{plant-tables, plant-ended}
 use Rattle.conflict.specs.Given.{Limits, Ready}
+use Rattle.conflict.specs.Shown.{shownOf}
 use Rattle.conflict.proofs.Bytes.{small-behind, byte-most}
 
 -- ---- what a plant's tables give
@@ -74,7 +77,22 @@ ready-again r l = record { limits = r .limits; prepared = r .prepared; planned =
 
 -- the bytes of the variables are the first of these, and are lent to be filled
 abbrev pub unfilled : List ℕ
-unfilled = replicate 48 16
+unfilled = replicate stateBytes 0
+
+-- zeros behind the first m
+zeros-left : (m n : ℕ) → drop {A = ℕ} m (replicate n 0) ≡ replicate (n - m) 0
+zeros-left zero n = simp unary-clauses refl
+zeros-left (suc m) zero = let none : 0 - suc m ≡ 0 = omega arith in rw none
+zeros-left (suc m) (suc n) = simp unary-clauses (zeros-left m n)
+
+-- what is shown of the bytes that a test of all variables leaves, with zeros behind them
+shown-left : (e : Tested) (before after : List ℕ) (q : Answer) → Ended e before after q → (n : ℕ) → length after ≡ n → shownOf q (after ++ drop n unfilled) ≡ shownBy e
+unfolding answerOf leaves shownBy valueBytes
+shown-left (consistent f t) before after q h n l =
+    let long : length f ≡ n = ap length (sym (h .left)) ∙ l in
+    rw (h .answer, h .left, zeros-left n stateBytes, ← long)
+shown-left (inconsistent t) before after q h n l = rw (h .answer)
+shown-left (Tested.spent t) before after q h n l = rw (h .answer)
 
 module _ {d : ℕ} {domains counts lits sat uses plan : List ℕ} (r : Ready d domains counts lits sat uses plan) (mask values : ℕ)
     {filled : List ℕ} (e : filled ≡ map byte (assignmentOf d mask values ++ replicate (length (take (length domains) unfilled) - d) none)) where
@@ -111,12 +129,15 @@ module _ {d : ℕ} {domains counts lits sat uses plan : List ℕ} (r : Ready d d
     r .planned,
   )
 
-  -- and it ends on them as the model's test of the assignment does
+  -- and it ends on them as the model's test of the assignment does, and shows what that shows
   pub ready-ended : {p : Plant} {costs : List ℕ} → Tabled p d domains costs counts lits → (a : Assignment) → Words a mask values → Valid (decisionSizes p) a → (limit used : ℕ) (after : List ℕ) (q : Answer)
       → Ended (testOver (clauses counts lits) domains limit used (map given (take (length domains) (filled ++ drop (length domains) unfilled)))) (take (length domains) (filled ++ drop (length domains) unfilled)) after q
-      → q ≡ answerOf (test p limit a used)
-  ready-ended {p} t a w v limit used after q h =
-      plant-ended p (t .accepted) domains counts lits (tabled-sizes t) (tabled-clauses t) (t .literal-room) a v _ (again ∙ held ∙ rw (tabled-over t a w v)) limit used after q h .answer
+      → length after ≡ length (take (length domains) (filled ++ drop (length domains) unfilled))
+      → (q ≡ answerOf (test p limit a used)) × (shownOf q (after ++ drop (length domains) (filled ++ drop (length domains) unfilled)) ≡ shownBy (test p limit a used))
+  ready-ended {p} t a w v limit used after q h l =
+      let e = plant-ended p (t .accepted) domains counts lits (tabled-sizes t) (tabled-clauses t) (t .literal-room) a v _ (again ∙ held ∙ rw (tabled-over t a w v)) limit used after q h in
+      let behind : drop (length domains) (filled ++ drop (length domains) unfilled) ≡ drop (length domains) unfilled = drop-at filled (drop (length domains) unfilled) (length domains) same in
+      (e .answer, rw behind (shown-left (test p limit a used) _ after q e (length domains) (l ∙ ap length again ∙ same)))
 
 -- ---- what it answers
 

@@ -5,14 +5,14 @@ use mathlib.Core.Option.{Option, none, some}
 use mathlib.Core.List.{List}
 use Prim.Native.Nat.{ℕ, _^_, _≤_, _<_}
 use native.Mathlib.Omega.{arith}
-use lib.ListN.{length, take, length-map}
+use lib.ListN.{length, replicate, take, length-map}
 use Rattle.model.specs.Lists.{All}
 use Rattle.model.specs.Sheet.{Plant, Read, got, edition1, readSheet, decisionSizes}
 use Rattle.model.specs.Assignment.{Assignment, Valid, assignmentOf, maskFits, valuesFit, wellFormed}
 use Rattle.model.specs.Consistency.{Tested, consistent, inconsistent, test}
 use Rattle.model.specs.Conflict.{Reduced, conflict, ReducedAlone, nothing, reduced, reduce, reduceAlone}
-use Rattle.model.specs.Calls.{Refusal, byHost, byAuthor, refusalNumber, firstGiven, wordGrounds, Answered, refused, answered, onWords, testCall, reduceCall}
-use Rattle.theory.specs.Consistency.{Alone}
+use Rattle.model.specs.Calls.{Refusal, byHost, byAuthor, refusalNumber, firstGiven, wordGrounds, Answered, refused, answered, onWords, stateBytes, shownBy, testCall, reduceCall}
+use Rattle.theory.specs.Consistency.{VariablesPresent, Alone}
 use Rattle.theory.specs.Plant.{Accepted}
 use Rattle.theory.specs.Tables.{Tabled}
 use Rattle.theory.specs.Words.{Words}
@@ -21,16 +21,19 @@ use Rattle.theory.proofs.Sheet.{accepted}
 use Rattle.theory.proofs.Tables.{tabled-decisions, tabled-count, tabled-few}
 use Rattle.theory.proofs.Test.{accepted-present, test-consistent, test-inconsistent}
 use Rattle.theory.proofs.Reduction.{reduce-alone}
+use Rattle.theory.proofs.Shown.{test-shows}
 use Rattle.theory.proofs.Words.{well-formed-valid, well-formed-words, valid-words}
 use Rattle.trials.specs.declared.Answer.{Answer as Ending}
 use Rattle.trials.specs.Answers.{answerOf}
 use Rattle.trials.proofs.Endings.{was-consistent, was-inconsistent, was-spent}
 use Rattle.conflict.specs.declared.reduce.Reduced.{Reduced as Answer}
 use Rattle.refusal.specs.declared.Refusal.{Refusal as Whose}
+use Rattle.conflict_call.specs.declared.TestAnswer.{TestAnswer}
 use Rattle.conflict_call.specs.declared.ReduceAnswer.{ReduceAnswer}
+use Rattle.conflict_call.specs.declared.Asked.{Asked}
 use Rattle.conflict.specs.Reduced.{Reduces}
 use Rattle.refusal.specs.Refusal.{refusalOf, groundNumber}
-use Rattle.conflict_call.specs.Calls.{onAnswer, onPlant, shown, TestSays, worded, reduceOf, ReduceSays, ReduceRight, endingOf, Answers}
+use Rattle.conflict_call.specs.Calls.{onAnswer, onPlant, withoutValues, shownIn, testOf, TestSays, TestRight, worded, reduceOf, ReduceSays, ReduceRight, endingOf, Answers}
 use Rattle.conflict.proofs.Given.{as-ended}
 
 -- ---- the words
@@ -60,6 +63,10 @@ module _ (domains : List ℕ) (mask values : ℕ) where
 
 -- ---- a plant and two words
 
+-- a refusal shows zeros
+abbrev pub refusing : Whose → Asked
+refusing w = record { answer = ReduceAnswer.Refused w; values = replicate stateBytes 0 }
+
 module _ {A : Type 0} (p : Plant) (mask values : ℕ) (ask : Assignment → A) where
   plant-refused : {n : ℕ} → firstGiven (wordGrounds (decisionSizes p) mask values) ≡ some n → onPlant p mask values ask ≡ refused (byHost n)
   unfolding onPlant
@@ -72,10 +79,11 @@ module _ {A : Type 0} (p : Plant) (mask values : ℕ) (ask : Assignment → A) w
 module _ {p : Plant} {d : ℕ} {domains costs counts lits : List ℕ} (t : Tabled p d domains costs counts lits) (mask values limit : ℕ) {minimal : Bool} where
   -- a ground that is given refuses the call
   pub plant-refuses : {n : ℕ} → n ≡ groundNumber (firstGiven (wordGrounds (take d domains) mask values)) → (n ≡ 0 → ⊥)
-      → Answers minimal (ReduceAnswer.Refused (Whose.Host n)) (onPlant p mask values (λ a. test p limit a 0)) (onPlant p mask values (λ a. reduceAlone p limit a))
+      → Answers minimal (refusing (Whose.Host n)) (onPlant p mask values (λ a. test p limit a 0)) (onPlant p mask values (λ a. reduceAlone p limit a))
   plant-refuses {n} e h =
       let f = go (firstGiven (wordGrounds (decisionSizes p) mask values)) (rw (← tabled-decisions t) at e) in
-      record { test = λ _. rw (plant-refused p mask values (λ a. test p limit a 0) f); reduction = λ _. rw (plant-refused p mask values (λ a. reduceAlone p limit a) f) }
+      let w = plant-refused p mask values (λ a. test p limit a 0) f in
+      record { test = λ _. rw w; reduction = λ _. rw (plant-refused p mask values (λ a. reduceAlone p limit a) f); shows = rw w }
     where
       go : (o : Option ℕ) → n ≡ groundNumber o → o ≡ some n
       go none e = absurd (h e)
@@ -83,7 +91,7 @@ module _ {p : Plant} {d : ℕ} {domains costs counts lits : List ℕ} (t : Table
 
   -- where none is, the words hold an assignment, and it answers
   pub plant-answers : groundNumber (firstGiven (wordGrounds (take d domains) mask values)) ≡ 0 → mask < 2 ^ 64 → values < 2 ^ 64
-      → {r : ReduceAnswer} → ((a : Assignment) → Words a mask values → Valid (decisionSizes p) a → Answers minimal r (answered (test p limit a 0)) (answered (reduceAlone p limit a)))
+      → {r : Asked} → ((a : Assignment) → Words a mask values → Valid (decisionSizes p) a → Answers minimal r (answered (test p limit a 0)) (answered (reduceAlone p limit a)))
       → Answers minimal r (onPlant p mask values (λ a. test p limit a 0)) (onPlant p mask values (λ a. reduceAlone p limit a))
   plant-answers e fm fv h =
       let l = length-map (p .costs) length in
@@ -104,57 +112,60 @@ module _ {A : Type 0} (sheet : List ℕ) (mask values : ℕ) (ask : Plant → As
   sheet-got e = rw (onWords, e)
 
 module _ (sheet : List ℕ) (mask values limit : ℕ) {minimal : Bool} where
-  pub sheet-refuses : {n : ℕ} → readSheet edition1 sheet ≡ Read.refused n → Answers minimal (ReduceAnswer.Refused (Whose.Author n)) (testCall sheet mask values limit) (reduceCall sheet mask values limit)
+  pub sheet-refuses : {n : ℕ} → readSheet edition1 sheet ≡ Read.refused n → Answers minimal (refusing (Whose.Author n)) (testCall sheet mask values limit) (reduceCall sheet mask values limit)
   unfolding testCall reduceCall
   sheet-refuses e = record {
     test = λ _. rw (testCall, sheet-refused sheet mask values (λ p a. test p limit a 0) e);
     reduction = λ _. rw (reduceCall, sheet-refused sheet mask values (λ p a. reduceAlone p limit a) e);
+    shows = rw (testCall, sheet-refused sheet mask values (λ p a. test p limit a 0) e);
   }
 
   pub sheet-answers : {p : Plant} {end : ℕ} → readSheet edition1 sheet ≡ got p end
-      → {r : ReduceAnswer} → Answers minimal r (onPlant p mask values (λ a. test p limit a 0)) (onPlant p mask values (λ a. reduceAlone p limit a))
+      → {r : Asked} → Answers minimal r (onPlant p mask values (λ a. test p limit a 0)) (onPlant p mask values (λ a. reduceAlone p limit a))
       → Answers minimal r (testCall sheet mask values limit) (reduceCall sheet mask values limit)
   unfolding testCall reduceCall
   sheet-answers e h = rw (testCall, reduceCall, sheet-got sheet mask values (λ p a. test p limit a 0) e, sheet-got sheet mask values (λ p a. reduceAlone p limit a) e) h
 
 -- ---- the test of an assignment, and the reduction after it
 
-module _ (p : Plant) (limit : ℕ) {minimal : Bool} (a : Assignment) {e : Ending} (h : e ≡ answerOf (test p limit a 0)) {t : ℕ} where
-  pub answers-none : e ≡ Ending.Consistent t → Answers minimal (ReduceAnswer.None t) (answered (test p limit a 0)) (answered (reduceAlone p limit a))
+module _ (p : Plant) (limit : ℕ) {minimal : Bool} (a : Assignment) {e : Ending} {bytes : List ℕ} (h : (e ≡ answerOf (test p limit a 0)) × (bytes ≡ shownBy (test p limit a 0))) {t : ℕ} where
+  pub answers-none : e ≡ Ending.Consistent t → Answers minimal (record { answer = ReduceAnswer.None t; values = bytes }) (answered (test p limit a 0)) (answered (reduceAlone p limit a))
   unfolding reduceAlone
-  answers-none q = let w = was-consistent _ _ _ t e (as-ended h) q in record { test = λ _. rw w; reduction = λ _. rw (reduceAlone, w) }
+  answers-none q = let w = was-consistent _ _ _ t e (as-ended (h .0)) q in record { test = λ _. rw w; reduction = λ _. rw (reduceAlone, w); shows = h .1 }
 
-  pub answers-spent : e ≡ Ending.Spent t → Answers minimal (ReduceAnswer.Spent t) (answered (test p limit a 0)) (answered (reduceAlone p limit a))
+  pub answers-spent : e ≡ Ending.Spent t → Answers minimal (record { answer = ReduceAnswer.Spent t; values = bytes }) (answered (test p limit a 0)) (answered (reduceAlone p limit a))
   unfolding reduceAlone
-  answers-spent q = let w = was-spent _ _ _ t e (as-ended h) q .0 in record { test = λ _. rw w; reduction = λ _. rw (reduceAlone, w) }
+  answers-spent q = let w = was-spent _ _ _ t e (as-ended (h .0)) q .0 in record { test = λ _. rw w; reduction = λ _. rw (reduceAlone, w); shows = h .1 }
 
   module _ (q : e ≡ Ending.Inconsistent t) where
-    pub answers-whole : minimal ≡ false → {mask values : ℕ} → Answers minimal (ReduceAnswer.Conflict mask values t) (answered (test p limit a 0)) (answered (reduceAlone p limit a))
-    answers-whole f = record { test = λ _. rw (was-inconsistent _ _ _ t e (as-ended h) q .0); reduction = λ g. absurd (false≢true (sym f ∙ g)) }
+    pub answers-whole : minimal ≡ false → {mask values : ℕ} → Answers minimal (record { answer = ReduceAnswer.Conflict mask values t; values = bytes }) (answered (test p limit a 0)) (answered (reduceAlone p limit a))
+    answers-whole f = record { test = λ _. rw (was-inconsistent _ _ _ t e (as-ended (h .0)) q .0); reduction = λ g. absurd (false≢true (sym f ∙ g)); shows = h .1 }
 
     module _ (f : minimal ≡ true) (r : Answer) (k : Reduces p (reduce p limit a t) r) where
-      pub answers-conflict : {m x u : ℕ} → r ≡ Answer.Conflict m x u → Answers minimal (ReduceAnswer.Conflict m x u) (answered (test p limit a 0)) (answered (reduceAlone p limit a))
+      pub answers-conflict : {m x u : ℕ} → r ≡ Answer.Conflict m x u → Answers minimal (record { answer = ReduceAnswer.Conflict m x u; values = bytes }) (answered (test p limit a 0)) (answered (reduceAlone p limit a))
       unfolding reduceAlone
       answers-conflict {m} {x} {u} g =
           let k : Reduces p (reduce p limit a t) (Answer.Conflict m x u) = rw g at k in
-          record { test = λ g. absurd (false≢true (sym g ∙ f)); reduction = λ _. rw (reduceAlone, was-inconsistent _ _ _ t e (as-ended h) q .0, k .2, k .1 .words .mask-is, k .1 .words .values-is) }
+          let w = was-inconsistent _ _ _ t e (as-ended (h .0)) q .0 in
+          record { test = λ g. absurd (false≢true (sym g ∙ f)); reduction = λ _. rw (reduceAlone, w, k .2, k .1 .words .mask-is, k .1 .words .values-is); shows = h .1 }
 
-      pub answers-stopped : {u : ℕ} → r ≡ Answer.Spent u → Answers minimal (ReduceAnswer.Spent u) (answered (test p limit a 0)) (answered (reduceAlone p limit a))
+      pub answers-stopped : {u : ℕ} → r ≡ Answer.Spent u → Answers minimal (record { answer = ReduceAnswer.Spent u; values = bytes }) (answered (test p limit a 0)) (answered (reduceAlone p limit a))
       unfolding reduceAlone
       answers-stopped {u} g =
           let k : reduce p limit a t ≡ Reduced.spent u = rw g at k in
-          record { test = λ g. absurd (false≢true (sym g ∙ f)); reduction = λ _. rw (reduceAlone, was-inconsistent _ _ _ t e (as-ended h) q .0, k) }
+          let w = was-inconsistent _ _ _ t e (as-ended (h .0)) q .0 in
+          record { test = λ g. absurd (false≢true (sym g ∙ f)); reduction = λ _. rw (reduceAlone, w, k); shows = h .1 }
 
 -- ---- what is answered is right
 
 module _ (sheet : List ℕ) (mask values : ℕ) where
   -- what holds of each refusal, and of what a valid assignment of the plant answers, holds of the answer
-  answer-says : {A B : Type 0} (ask : Plant → Assignment → A) (g : A → B) (S : Plant → Assignment → Answered B → Type 0) → ((p : Plant) (a : Assignment) (r : Refusal) → S p a (refused r))
-      → ((p : Plant) → Accepted edition1 p → (a : Assignment) → Valid (decisionSizes p) a → S p a (answered (g (ask p a))))
-      → (p : Plant) (end : ℕ) → readSheet edition1 sheet ≡ got p end → S p (assignmentOf (length (p .costs)) mask values) (onAnswer g (onWords edition1 sheet mask values ask))
-  answer-says ask g S refuses answers p end h = rw (sheet-got sheet mask values ask h) (go (firstGiven (wordGrounds (decisionSizes p) mask values)) refl)
+  answer-says : {A : Type 0} (ask : Plant → Assignment → A) (S : Plant → Assignment → Answered A → Type 0) → ((p : Plant) (a : Assignment) (r : Refusal) → S p a (refused r))
+      → ((p : Plant) → Accepted edition1 p → (a : Assignment) → Valid (decisionSizes p) a → S p a (answered (ask p a)))
+      → (p : Plant) (end : ℕ) → readSheet edition1 sheet ≡ got p end → S p (assignmentOf (length (p .costs)) mask values) (onWords edition1 sheet mask values ask)
+  answer-says ask S refuses answers p end h = rw (sheet-got sheet mask values ask h) (go (firstGiven (wordGrounds (decisionSizes p) mask values)) refl)
     where
-      go : (o : Option ℕ) → firstGiven (wordGrounds (decisionSizes p) mask values) ≡ o → S p (assignmentOf (length (p .costs)) mask values) (onAnswer g (onPlant p mask values (ask p)))
+      go : (o : Option ℕ) → firstGiven (wordGrounds (decisionSizes p) mask values) ≡ o → S p (assignmentOf (length (p .costs)) mask values) (onPlant p mask values (ask p))
       go (some n) e = rw (plant-refused p mask values (ask p) e) (refuses p _ (byHost n))
       go none e =
           let l = length-map (p .costs) length in
@@ -162,12 +173,16 @@ module _ (sheet : List ℕ) (mask values : ℕ) where
           rw (plant-answered p mask values (ask p) e) (answers p (accepted sheet p end h .0) _ (rw l at (well-formed-valid (decisionSizes p) mask values (fit (decisionSizes p) mask values f .1))))
 
 module _ (limit : ℕ) (p : Plant) (ok : Accepted edition1 p) (a : Assignment) (valid : Valid (decisionSizes p) a) where
-  test-says : TestSays p a (answered (shown (test p limit a 0)))
+  test-says : TestSays p a (shownBy (test p limit a 0)) (answered (withoutValues (test p limit a 0)))
+  unfolding shownBy
   test-says = go (test p limit a 0) refl
     where
-      go : (e : Tested) → test p limit a 0 ≡ e → TestSays p a (answered (shown e))
-      go (consistent f t) q = (f, test-consistent p (accepted-present edition1 p ok) limit a valid 0 f t q)
-      go (inconsistent t) q = test-inconsistent p (accepted-present edition1 p ok) limit a valid 0 t q
+      present : VariablesPresent p
+      present = accepted-present edition1 p ok
+
+      go : (e : Tested) → test p limit a 0 ≡ e → TestSays p a (shownBy e) (answered (withoutValues e))
+      go (consistent f t) q = ((f, test-consistent p present limit a valid 0 f t q), test-shows p a present valid limit 0 f t q)
+      go (inconsistent t) q = test-inconsistent p present limit a valid 0 t q
       go (Tested.spent t) q = tt
 
   reduce-says : ReduceSays p a (answered (worded (reduceAlone p limit a)))
@@ -185,22 +200,22 @@ module _ (limit : ℕ) (p : Plant) (ok : Accepted edition1 p) (a : Assignment) (
       go (reduced (conflict c t)) h = (h .0, (c, valid-words (decisionSizes p) few small c (h .1 .conflict .valid), h .1, h .3))
       go (reduced (Reduced.spent t)) h = tt
 
-module _ (sheet : List ℕ) (mask values limit : ℕ) {r : ReduceAnswer} where
-  -- the test's answer is the model's, and right about the assignment
-  pub test-right : Answers false r (testCall sheet mask values limit) (reduceCall sheet mask values limit) → {s : ReduceAnswer} → r ≡ s
-      → (endingOf s ≡ onAnswer shown (testCall sheet mask values limit)) × ((p : Plant) (end : ℕ) → readSheet edition1 sheet ≡ got p end → TestSays p (assignmentOf (length (p .costs)) mask values) (endingOf s))
+module _ (sheet : List ℕ) (mask values limit : ℕ) {r : Asked} where
+  -- the test's answer and the bytes are the model's, and right about the assignment
+  pub test-right : Answers false r (testCall sheet mask values limit) (reduceCall sheet mask values limit) → (q : TestAnswer) → testOf q ≡ endingOf (r .answer)
+      → (testOf q ≡ onAnswer withoutValues (testCall sheet mask values limit)) × ((r .values ≡ shownIn (testCall sheet mask values limit)) × TestRight sheet mask values (record { answer = q; values = r .values }))
   unfolding testCall
-  test-right h {s} q =
-      let e : endingOf s ≡ onAnswer shown (testCall sheet mask values limit) = rw q at (h .test refl) in
-      (e, λ p end h. rw e (answer-says sheet mask values (λ p a. test p limit a 0) shown TestSays (λ p a r. tt) (test-says limit) p end h))
+  test-right h q f =
+      let e = f ∙ h .test refl in
+      (e, (h .shows, λ p end k. rw (e, h .shows) (answer-says sheet mask values (λ p a. test p limit a 0) (λ p a e. TestSays p a (shownIn e) (onAnswer withoutValues e)) (λ p a r. tt) (test-says limit) p end k)))
 
   -- and so is the reduction's
   pub reduce-right : Answers true r (testCall sheet mask values limit) (reduceCall sheet mask values limit)
-      → (reduceOf r ≡ onAnswer worded (reduceCall sheet mask values limit)) × ReduceRight sheet mask values r
+      → (reduceOf (r .answer) ≡ onAnswer worded (reduceCall sheet mask values limit)) × ReduceRight sheet mask values (r .answer)
   unfolding reduceCall
   reduce-right h =
       let e = h .reduction refl in
-      (e, λ p end h. rw e (answer-says sheet mask values (λ p a. reduceAlone p limit a) worded ReduceSays (λ p a r. tt) (reduce-says limit) p end h))
+      (e, λ p end k. rw e (answer-says sheet mask values (λ p a. reduceAlone p limit a) (λ p a o. ReduceSays p a (onAnswer worded o)) (λ p a r. tt) (reduce-says limit) p end k))
 
 -- ---- what is refused
 
@@ -224,9 +239,9 @@ module _ (sheet : List ℕ) (mask values : ℕ) {A B : Type 0} (ask : Plant → 
           absurd (omega arith)
 
 module _ (sheet : List ℕ) (mask values limit : ℕ) (r : Whose) where
-  pub test-refusal : refused (refusalOf r) ≡ onAnswer shown (testCall sheet mask values limit) → (p : Plant) (end : ℕ) → readSheet edition1 sheet ≡ got p end → refusalNumber (refusalOf r) ≡ 0 → ⊥
+  pub test-refusal : refused (refusalOf r) ≡ onAnswer withoutValues (testCall sheet mask values limit) → (p : Plant) (end : ℕ) → readSheet edition1 sheet ≡ got p end → refusalNumber (refusalOf r) ≡ 0 → ⊥
   unfolding testCall
-  test-refusal = refusal-number sheet mask values (λ p a. test p limit a 0) shown (refusalOf r)
+  test-refusal = refusal-number sheet mask values (λ p a. test p limit a 0) withoutValues (refusalOf r)
 
   pub reduce-refusal : refused (refusalOf r) ≡ onAnswer worded (reduceCall sheet mask values limit) → (p : Plant) (end : ℕ) → readSheet edition1 sheet ≡ got p end → refusalNumber (refusalOf r) ≡ 0 → ⊥
   unfolding reduceCall

@@ -4,16 +4,19 @@ use mathlib.Core.Bool.{Bool, true, false}
 use mathlib.Core.Option.{none, some}
 use mathlib.Core.List.{List, []}
 use Prim.Native.Nat.{ℕ}
-use lib.ListN.{length}
+use lib.ListN.{length, replicate}
 use Rattle.model.specs.Sheet.{Plant, got, edition1, readSheet, decisionSizes}
 use Rattle.model.specs.Assignment.{Assignment, maskOf, valuesOf, assignmentOf}
 use Rattle.model.specs.Consistency.{Tested, consistent, inconsistent, Consistent}
 use Rattle.model.specs.Conflict.{Reduced, ReducedAlone, reduced, Minimal, manifests}
-use Rattle.model.specs.Calls.{byHost, firstGiven, wordGrounds, Answered, refused, answered}
+use Rattle.model.specs.Calls.{byHost, firstGiven, wordGrounds, Answered, refused, answered, stateBytes, shownBy}
 use Rattle.theory.specs.Words.{Words}
+use Rattle.theory.specs.Shown.{Shows}
 use Rattle.refusal.specs.Refusal.{refusalOf}
 use Rattle.conflict_call.specs.declared.TestAnswer.{TestAnswer}
+use Rattle.conflict_call.specs.declared.TestShown.{TestShown}
 use Rattle.conflict_call.specs.declared.ReduceAnswer.{ReduceAnswer}
+use Rattle.conflict_call.specs.declared.Asked.{Asked}
 
 -- ---- both calls
 
@@ -33,10 +36,15 @@ onPlant p mask values ask =
 -- ---- the test
 
 -- how a test ends, without the values found
-abbrev pub shown : Tested → Tested
-shown (consistent f t) = consistent [] t
-shown (inconsistent t) = inconsistent t
-shown (Tested.spent t) = Tested.spent t
+abbrev pub withoutValues : Tested → Tested
+withoutValues (consistent f t) = consistent [] t
+withoutValues (inconsistent t) = inconsistent t
+withoutValues (Tested.spent t) = Tested.spent t
+
+-- the bytes shown in an answer by value: those of the test, and zeros in a refusal
+abbrev pub shownIn : Answered Tested → List ℕ
+shownIn (refused r) = replicate stateBytes 0
+shownIn (answered e) = shownBy e
 
 -- what the test call answers
 abbrev pub testOf : TestAnswer → Answered Tested
@@ -45,16 +53,16 @@ testOf (TestAnswer.Consistent t) = answered (consistent [] t)
 testOf (TestAnswer.Inconsistent t) = answered (inconsistent t)
 testOf (TestAnswer.Spent t) = answered (Tested.spent t)
 
--- what that says of the assignment: unless refused or spent, 'consistent' exactly where it is consistent
-abbrev pub TestSays : Plant → Assignment → Answered Tested → Type 0
-TestSays p a (refused r) = Unit {0}
-TestSays p a (answered (consistent f t)) = Consistent p a
-TestSays p a (answered (inconsistent t)) = Consistent p a → ⊥
-TestSays p a (answered (Tested.spent t)) = Unit {0}
+-- what that says of the assignment: unless refused or spent, 'consistent' exactly where it is consistent, and then the bytes show it
+abbrev pub TestSays : Plant → Assignment → List ℕ → Answered Tested → Type 0
+TestSays p a bytes (refused r) = Unit {0}
+TestSays p a bytes (answered (consistent f t)) = Consistent p a × Shows p a bytes
+TestSays p a bytes (answered (inconsistent t)) = Consistent p a → ⊥
+TestSays p a bytes (answered (Tested.spent t)) = Unit {0}
 
 -- it is right about the assignment that the words hold to the decision variables of the sheet's plant
-abbrev pub TestRight : List ℕ → ℕ → ℕ → TestAnswer → Type 0
-TestRight sheet mask values r = (p : Plant) (end : ℕ) → readSheet edition1 sheet ≡ got p end → TestSays p (assignmentOf (length (p .costs)) mask values) (testOf r)
+abbrev pub TestRight : List ℕ → ℕ → ℕ → TestShown → Type 0
+TestRight sheet mask values r = (p : Plant) (end : ℕ) → readSheet edition1 sheet ≡ got p end → TestSays p (assignmentOf (length (p .costs)) mask values) (r .values) (testOf (r .answer))
 
 -- ---- the reduction
 
@@ -95,7 +103,8 @@ endingOf (ReduceAnswer.None t) = answered (consistent [] t)
 endingOf (ReduceAnswer.Conflict mask values t) = answered (inconsistent t)
 endingOf (ReduceAnswer.Spent t) = answered (Tested.spent t)
 
--- it answers as the test does, or as the reduction where a minimal conflict is asked for
-pub record Answers (minimal : Bool) (r : ReduceAnswer) (e : Answered Tested) (o : Answered ReducedAlone) : Type 0 where
-  pub test : minimal ≡ false → endingOf r ≡ onAnswer shown e
-  pub reduction : minimal ≡ true → reduceOf r ≡ onAnswer worded o
+-- it answers as the test does, or as the reduction where a minimal conflict is asked for, and has the bytes that the test shows
+pub record Answers (minimal : Bool) (r : Asked) (e : Answered Tested) (o : Answered ReducedAlone) : Type 0 where
+  pub test : minimal ≡ false → endingOf (r .answer) ≡ onAnswer withoutValues e
+  pub reduction : minimal ≡ true → reduceOf (r .answer) ≡ onAnswer worded o
+  pub shows : r .values ≡ shownIn e

@@ -24,10 +24,10 @@ pub record Tables (p : Plant) (d : ℕ) (sizes prices counts lits sat uses plan 
   pub preferred-is : CheapestValues p preferred
 
 -- before steps 4 to 7: a node has been removed
-pub record Expands (d : ℕ) (sizes prices counts lits sat uses plan : List ℕ) (preferred limit : ℕ) (codes costs queue store : List ℕ) (g : Progress) (node : Node) : Type 0 where
+pub record Expands (d : ℕ) (sizes prices counts lits sat uses plan : List ℕ) (preferred limit : ℕ) (codes costs values queue store : List ℕ) (g : Progress) (node : Node) : Type 0 where
   pub question : Question
   pub tables : Tables (question .plant) d sizes prices counts lits sat uses plan preferred
-  pub taken : Removed question limit queue store codes costs g node
+  pub taken : Removed question limit queue store codes costs values g node
 
 -- the same progress with so many entries in the queue
 abbrev pub queuing : Progress → ℕ → Progress

@@ -51,10 +51,10 @@ fn resolve(
     g: Progress,
 ) -> Next
     requires { ⌜ (d ≤ 16) × (d ≤ length (now sizes)) × (16 * d ≤ length (now prices)) × All Sized (take d (now sizes)) × (2 * g .stored ≤ length (now store)) ⌝ }
-    ensures { λ r. ⌜ ((q : Question) (limit : ℕ) (codes costs : List ℕ) (t : Removed q limit (now (queue .entry)) (now (store .entry)) codes costs g node)
+    ensures { λ r. ⌜ ((q : Question) (limit : ℕ) (codes costs shown : List ℕ) (t : Removed q limit (now (queue .entry)) (now (store .entry)) codes costs shown g node)
         → Tables (q .plant) d (now (sizes .entry)) (now (prices .entry)) preferred
         → (c : Assignment) → firstUnresolved (t .state .store) (t .parent) ≡ some c → Words c mask values
-        → NextIs q (now (queue .exit)) (now (store .entry)) codes costs r
+        → NextIs q (now (queue .exit)) (now (store .entry)) codes costs shown r
         (expand (q .plant) (orderOf (q .plant)) (q .wanted) (length (now (queue .entry)) / 2) (length (now (store .entry)) / 2) limit (t .state) (t .rest) (t .parent))) ⌝ }
 {
     let n = g.queued;
@@ -89,10 +89,10 @@ fn branch(
     g: Progress,
 ) -> Next
     requires { ⌜ (d ≤ 16) × (d ≤ length (now sizes)) × (16 * d ≤ length (now prices)) × All Sized (take d (now sizes)) × (2 * g .stored ≤ length (now store)) ⌝ }
-    ensures { λ r. ⌜ ((q : Question) (limit : ℕ) (codes costs : List ℕ) (t : Removed q limit (now (queue .entry)) (now (store .entry)) codes costs g node)
+    ensures { λ r. ⌜ ((q : Question) (limit : ℕ) (codes costs shown : List ℕ) (t : Removed q limit (now (queue .entry)) (now (store .entry)) codes costs shown g node)
         → Tables (q .plant) d (now (sizes .entry)) (now (prices .entry)) preferred
         → firstUnresolved (t .state .store) (t .parent) ≡ none → isFull (t .parent) ≡ false
-        → NextIs q (now (queue .exit)) (now (store .entry)) codes costs r
+        → NextIs q (now (queue .exit)) (now (store .entry)) codes costs shown r
         (expand (q .plant) (orderOf (q .plant)) (q .wanted) (length (now (queue .entry)) / 2) (length (now (store .entry)) / 2) limit (t .state) (t .rest) (t .parent))) ⌝ }
 {
     let n = g.queued;
@@ -116,20 +116,21 @@ pub fn expand(
     preferred: u64,
     codes: &mut [u64],
     costs: &mut [u32],
+    values: &mut [u8],
     queue: &mut [u64],
     store: &mut [u64],
     g: Progress,
     node: Node,
     limit: u32,
 ) -> Next
-    requires { ⌜ Expands d (now sizes) (now prices) (now counts) (now lits) (now sat) (now uses) (now plan) preferred limit (now codes) (now costs) (now queue) (now store) g node ⌝ }
-    ensures answer { λ r. ⌜ ((t : Expands d (now (sizes .entry)) (now (prices .entry)) (now (counts .entry)) (now (lits .entry)) (now (sat .entry)) (now (uses .entry)) (now (plan .entry)) preferred limit (now (codes .entry)) (now (costs .entry)) (now (queue .entry)) (now (store .entry)) g node)
-        → NextIs (t .question) (now (queue .exit)) (now (store .exit)) (now (codes .exit)) (now (costs .exit)) r
+    requires { ⌜ Expands d (now sizes) (now prices) (now counts) (now lits) (now sat) (now uses) (now plan) preferred limit (now codes) (now costs) (now values) (now queue) (now store) g node ⌝ }
+    ensures answer { λ r. ⌜ ((t : Expands d (now (sizes .entry)) (now (prices .entry)) (now (counts .entry)) (now (lits .entry)) (now (sat .entry)) (now (uses .entry)) (now (plan .entry)) preferred limit (now (codes .entry)) (now (costs .entry)) (now (values .entry)) (now (queue .entry)) (now (store .entry)) g node)
+        → NextIs (t .question) (now (queue .exit)) (now (store .exit)) (now (codes .exit)) (now (costs .exit)) (now (values .exit)) r
         (expand (t .question .plant) (orderOf (t .question .plant)) (t .question .wanted) (length (now (queue .entry)) / 2) (length (now (store .entry)) / 2) limit (t .taken .state) (t .taken .rest) (t .taken .parent))) ⌝ }
     ensures long { λ _. ⌜ length (now (plan .exit)) ≡ planWords ⌝ }
 {
-    let values = children::values(node);
-    match store::first_unresolved(store, g.stored, values, words::widened(node.mask)) {
+    let held = children::values(node);
+    match store::first_unresolved(store, g.stored, held, words::widened(node.mask)) {
         Unresolved::At(m, x) => resolve(sizes, prices, preferred, d, node, m, x, queue, store, g),
         Unresolved::Nothing => {
             if words::is_full(node.mask, d) {
@@ -143,6 +144,7 @@ pub fn expand(
                     plan,
                     codes,
                     costs,
+                    values,
                     queue,
                     store,
                     g,

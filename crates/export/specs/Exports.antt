@@ -11,11 +11,12 @@ use Rattle.model.specs.Consistency.{Consistent}
 use Rattle.model.specs.Conflict.{Minimal, manifests}
 use Rattle.model.specs.Calls.{Buffers, Called, listingWith, Exported, exportedOf}
 use Rattle.theory.specs.Demand3.{PromisedBy}
+use Rattle.theory.specs.Shown.{Shows}
 use Rattle.theory.specs.Words.{Words}
 
 -- the version of the exports: its three numbers, each but the first below 256
 abbrev pub version : ℕ
-version = 0 * 65536 + 5 * 256 + 0
+version = 1 * 65536 + 0 * 256 + 0
 
 -- ---- the listing
 
@@ -34,9 +35,9 @@ ExportPromises sheet k before held limit result returned after words =
 abbrev pub OfSheet : List ℕ → ℕ → ℕ → (Plant → Assignment → Type 0) → Type 0
 OfSheet sheet mask values S = (p : Plant) (end : ℕ) → readSheet edition1 sheet ≡ got p end → S p (assignmentOf (length (p .costs)) mask values)
 
--- where the test was not refused, its first result word tells the truth: 1 that the assignment is consistent, 2 that it is not
-pub record TestTells (sheet : List ℕ) (mask values returned : ℕ) (result : List ℕ) : Type 0 where
-  pub consistent : returned ≡ 0 → getD result 0 0 ≡ 1 → OfSheet sheet mask values Consistent
+-- where the test was not refused, its first result word tells the truth: 1 that the assignment is consistent, and then the bytes show it, 2 that it is not
+pub record TestTells (sheet : List ℕ) (mask values returned : ℕ) (shown result : List ℕ) : Type 0 where
+  pub consistent : returned ≡ 0 → getD result 0 0 ≡ 1 → OfSheet sheet mask values (λ p a. Consistent p a × Shows p a shown)
   pub inconsistent : returned ≡ 0 → getD result 0 0 ≡ 2 → OfSheet sheet mask values (λ p a. Consistent p a → ⊥)
 
 -- two words hold a minimal conflict contained in the assignment

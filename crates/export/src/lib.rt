@@ -5,9 +5,11 @@ use conflict_call::TestAnswer;
 use conflict_call::reduce_call;
 use conflict_call::test_call;
 use judge::Ending;
+use limits::STATE_BYTES;
 use listing::Answer;
 use listing::Counts;
 use listing_call::list_with;
+use text::put_bytes;
 ghost use mathlib.Core.Path.{_≡_};
 ghost use mathlib.Core.List.{[], _∷_};
 ghost use Prim.Native.Nat.{_≤_};
@@ -28,7 +30,7 @@ const TEST_WORDS: usize = 2;
 const SHORT: u32 = 2;
 
 // MAJOR, MINOR and PATCH of the header, a byte each from the third on.
-const VERSION: u32 = 1280;
+const VERSION: u32 = 65536;
 
 // The version of these exports, which the header has too.
 #[no_mangle]
@@ -69,6 +71,7 @@ pub extern "C" fn leading_list(
     sheet: &[u8],
     codes: &mut [u64],
     costs: &mut [u32],
+    values: &mut [u8],
     queue: &mut [u64],
     store: &mut [u64],
     result: &mut [u32],
@@ -76,8 +79,8 @@ pub extern "C" fn leading_list(
     held: usize,
     limit: u32,
 ) -> u32
-    ensures { λ r. ⌜ (let before : Buffers = buffers (now (codes .entry)) (now (costs .entry)) (now (queue .entry)) (now (store .entry)) in
-        let after : Buffers = buffers (now (codes .exit)) (now (costs .exit)) (now (queue .exit)) (now (store .exit)) in
+    ensures { λ r. ⌜ (let before : Buffers = buffers (now (codes .entry)) (now (costs .entry)) (now (values .entry)) (now (queue .entry)) (now (store .entry)) in
+        let after : Buffers = buffers (now (codes .exit)) (now (costs .exit)) (now (values .exit)) (now (queue .exit)) (now (store .exit)) in
         (exportCall (now (sheet .entry)) k before held limit (now (result .entry)) ≡ exported r after (now (result .exit)))
         × ExportPromises (now (sheet .entry)) k before held limit (now (result .entry)) r after (now (result .exit))) ⌝ }
 {
@@ -86,6 +89,7 @@ pub extern "C" fn leading_list(
         k,
         codes,
         costs,
+        values,
         queue,
         store,
         held,
@@ -110,26 +114,46 @@ fn written(result: &mut [u32], answer: u32, trials: u32) -> u32
     0
 }
 
-// The test call: the result words are the answer (1 consistent, 2 inconsistent, 3 spent) and its trials.
+// Writes what a test shows, its answer's number and its trials.
+fn tested(
+    shown: &mut [u8; STATE_BYTES],
+    found: &[u8; STATE_BYTES],
+    result: &mut [u32],
+    answer: u32,
+    trials: u32,
+) -> u32
+    requires { ⌜ 2 ≤ length (now result) ⌝ }
+    ensures { λ r. ⌜ (r ≡ 0) × (now (shown .exit) ≡ now (found .entry)) × (now (result .exit) ≡ filled (answer ∷ trials ∷ []) (now (result .entry))) ⌝ }
+{
+    put_bytes(shown, 0, found);
+    written(result, answer, trials)
+}
+
+// The test call: the result words are the answer (1 consistent, 2 inconsistent, 3 spent) and its trials; `shown` takes the
+// value of every variable after 'consistent', and zeros after the others.
 #[no_mangle]
 pub extern "C" fn leading_test(
     sheet: &[u8],
     mask: u64,
     values: u64,
     limit: u32,
+    shown: &mut [u8; STATE_BYTES],
     result: &mut [u32],
 ) -> u32
-    ensures equation { λ r. ⌜ testExport (now (sheet .entry)) mask values limit (now (result .entry)) ≡ (r, now (result .exit)) ⌝ }
-    ensures right { λ r. ⌜ TestTells (now (sheet .entry)) mask values r (now (result .exit)) ⌝ }
+    ensures equation { λ r. ⌜ testExport (now (sheet .entry)) mask values limit (now (shown .entry)) (now (result .entry)) ≡ (r, now (shown .exit), now (result .exit)) ⌝ }
+    ensures right { λ r. ⌜ TestTells (now (sheet .entry)) mask values r (now (shown .exit)) (now (result .exit)) ⌝ }
 {
     if result.len() < TEST_WORDS {
         return SHORT;
     }
-    match test_call(sheet, mask, values, limit) {
+    let test = test_call(sheet, mask, values, limit);
+    let answer = test.answer;
+    let found = test.values;
+    match answer {
         TestAnswer::Refused(r) => refusal::number(r),
-        TestAnswer::Consistent(t) => written(result, 1, t),
-        TestAnswer::Inconsistent(t) => written(result, 2, t),
-        TestAnswer::Spent(t) => written(result, 3, t),
+        TestAnswer::Consistent(t) => tested(shown, &found, result, 1, t),
+        TestAnswer::Inconsistent(t) => tested(shown, &found, result, 2, t),
+        TestAnswer::Spent(t) => tested(shown, &found, result, 3, t),
     }
 }
 

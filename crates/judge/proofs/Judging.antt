@@ -1,22 +1,27 @@
 -- Step 7 on words: what holds before the test, and one law for each way out of the test and of what follows an inconsistent one. Assumes nothing.
 use mathlib.Core.Path.{_≡_, refl, ap, _∙_}
 use mathlib.Core.Bool.{true}
-use mathlib.Core.List.{List, [], _∷_, _++_, map, map-append}
-use Prim.Native.Nat.{ℕ, _+_, _/_, _≤_, _<_}
+use mathlib.Core.List.{List, [], _∷_, _++_, map, map-append, append-nil}
+use Prim.Native.Nat.{ℕ, _+_, _*_, _/_, _≤_, _<_}
 use native.Mathlib.Omega.{arith}
 use lib.ListN.{length, set, length-append, length-map}
 use borrow.Author.Tests.{lt-ltb, le-ltb}
-use Rattle.model.specs.Lists.{All, filled}
+use Rattle.model.specs.Lists.{All, filled, inTurn}
 use Rattle.model.specs.Sheet.{decisionSizes}
 use Rattle.model.specs.Assignment.{Assignment, Valid, isFull, valueList, code}
 use Rattle.model.specs.Consistency.{Tested, consistent, inconsistent, test}
 use Rattle.model.specs.Conflict.{Reduced, reduce}
 use Rattle.model.specs.Order.{Order, best, orderOf}
+use Rattle.model.specs.Calls.{stateBytes, valueBytes, shownBy}
 use Rattle.model.specs.Listing.{Next, stored, leaveOff, mostTested, learn, judge}
 use Rattle.theory.specs.Words.{Words}
+use Rattle.theory.specs.Puts.{written as put}
 use Rattle.theory.specs.Run.{strikes}
 use Rattle.theory.proofs.Agreement.{valid-length}
 use Rattle.theory.proofs.Filled.{filled-length, filled-more}
+use Rattle.theory.proofs.Lists.{in-turn-join}
+use Rattle.theory.proofs.Puts.{filled-then}
+use Rattle.theory.proofs.Shown.{accepted-few, shown-bytes}
 use Rattle.theory.proofs.Nodes.{full-best}
 use Rattle.theory.proofs.Order.{cost-lawful}
 use Rattle.conflict.specs.declared.reduce.Reduced.{Reduced as Answer}
@@ -46,11 +51,18 @@ written-more f xs x buffer before n y e l v h =
 written-length : {A : Type 0} (f : A → ℕ) (xs : List A) (buffer before : List ℕ) → before ≡ filled (map f xs) buffer → length xs ≤ length buffer → length before ≡ length buffer
 written-length f xs buffer before e h = ap length e ∙ filled-length (map f xs) buffer (rw (length-map xs f) h)
 
-module _ {q : Question} {limit : ℕ} {queue store codes costs : List ℕ} {g : Progress} {node : Node} (t : Removed q limit queue store codes costs g node) where
+-- the same of bytes of values in turn: those of one state more are written behind them
+values-more : (shown : List (List ℕ)) (f : List ℕ) (buffer before bytes : List ℕ) (n m : ℕ)
+    → before ≡ filled (inTurn valueBytes shown) buffer → length (inTurn valueBytes shown) ≡ stateBytes * m → n ≡ m → bytes ≡ valueBytes f
+    → put (stateBytes * n) bytes before ≡ filled (inTurn valueBytes (shown ++ (f ∷ []))) buffer
+values-more shown f buffer before bytes n m e l s b =
+    rw (e, s, b, ← l, in-turn-join valueBytes shown (f ∷ []), append-nil (valueBytes f)) (filled-then (inTurn valueBytes shown) (valueBytes f) buffer)
+
+module _ {q : Question} {limit : ℕ} {queue store codes costs values : List ℕ} {g : Progress} {node : Node} (t : Removed q limit queue store codes costs values g node) where
   -- ---- what holds before the test
 
   -- what is written down
-  abbrev written : Written q store codes costs g (t .state)
+  abbrev written : Written q store codes costs values g (t .state)
   written = t .turn .standing .written
 
   -- there are at most 16 decision variables
@@ -88,6 +100,16 @@ module _ {q : Question} {limit : ℕ} {queue store codes costs : List ℕ} {g : 
   pub costs-place : g .listed < length costs
   costs-place = listed-place (orderOf (q .plant) .figure) (q .costs) costs (written .costs-are) (t .turn .costs-room)
 
+  -- the bytes that show the states listed so far
+  shown-so-far : length (inTurn valueBytes (t .state .shown)) ≡ stateBytes * length (t .state .listed)
+  shown-so-far = shown-bytes (q .plant) (accepted-few (q .plant) (t .is .accepted)) (t .state .listed) (t .state .shown) (t .turn .going .kept .shown)
+
+  pub values-place : stateBytes * g .listed + stateBytes ≤ length values
+  values-place =
+      let long : length values ≡ length (q .values) =
+      ap length (written .values-are) ∙ filled-length (inTurn valueBytes (t .state .shown)) (q .values) (omega (arith, shown-so-far, t .wanting, t .turn .values-room)) in
+      omega (arith, long, written .listed-is, t .wanting, t .turn .values-room)
+
   -- the nodes that are left in the queue are valid
   rest-valid : All (Valid (decisionSizes (q .plant))) (t .rest)
   rest-valid = (rw (t .removed) at (t .turn .going .kept .searching .valid)) .1
@@ -100,7 +122,7 @@ module _ {q : Question} {limit : ℕ} {queue store codes costs : List ℕ} {g : 
     after = learn (q .plant) (orderOf (q .plant)) (q .wanted) (length queue / 2) (length store / 2) limit (t .state) (t .rest) (t .parent) trials
 
     -- the store is full: the node is unkept
-    pub learn-unkept : length store / 2 ≤ g .stored → NextIs q queue store codes costs (After.More (progress (g .queued) (g .stored) (g .listed) (g .tested + 1) (g .learned) (g .unkept + 1) trials)) after
+    pub learn-unkept : length store / 2 ≤ g .stored → NextIs q queue store codes costs values (After.More (progress (g .queued) (g .stored) (g .listed) (g .tested + 1) (g .learned) (g .unkept + 1) trials)) after
     unfolding learn
     learn-unkept h = rw (learn, le-ltb (length (t .state .store)) (length store / 2) (omega (arith, written .keeps .count))) record {
       holds = t .turn .standing .holds;
@@ -109,6 +131,7 @@ module _ {q : Question} {limit : ℕ} {queue store codes costs : List ℕ} {g : 
         keeps = written .keeps;
         codes-are = written .codes-are;
         costs-are = written .costs-are;
+        values-are = written .values-are;
         listed-is = written .listed-is;
         tested-is = omega (arith, written .tested-is);
         learned-is = written .learned-is;
@@ -122,7 +145,7 @@ module _ {q : Question} {limit : ℕ} {queue store codes costs : List ℕ} {g : 
       has-place = omega (arith, written .keeps .count, free)
 
       -- the limit struck in the reduction
-      pub learn-spent : {u : ℕ} (later : List ℕ) → r ≡ Answer.Spent u → NextIs q later store codes costs (After.Ended Ended.Spent (progress (g .queued) (g .stored) (g .listed) (g .tested + 1) (g .learned) (g .unkept) u)) after
+      pub learn-spent : {u : ℕ} (later : List ℕ) → r ≡ Answer.Spent u → NextIs q later store codes costs values (After.Ended Ended.Spent (progress (g .queued) (g .stored) (g .listed) (g .tested + 1) (g .learned) (g .unkept) u)) after
       unfolding learn
       learn-spent {u} later e =
           let k : reduce (q .plant) limit (t .parent) trials ≡ Reduced.spent u = rw e at h in
@@ -132,6 +155,7 @@ module _ {q : Question} {limit : ℕ} {queue store codes costs : List ℕ} {g : 
               keeps = written .keeps;
               codes-are = written .codes-are;
               costs-are = written .costs-are;
+              values-are = written .values-are;
               listed-is = written .listed-is;
               tested-is = omega (arith, written .tested-is);
               learned-is = written .learned-is;
@@ -145,7 +169,7 @@ module _ {q : Question} {limit : ℕ} {queue store codes costs : List ℕ} {g : 
           → ((d : ℕ) (conflicts : List Assignment) (c : Assignment) → Keeps d store (g .stored) conflicts → Words c m x → length c ≡ d → Keeps d store′ (g .stored + 1) (stored conflicts c))
           → (left ≤ g .queued) × ((ss : List ℕ) (o : Order) (nodes : List Assignment) (c : Assignment) → Suits ss o → All (Valid ss) nodes → Words c m x → length c ≡ length ss
           → Holds o (g .queued) queue nodes → Holds o left queue′ (leaveOff (c ∷ []) nodes))
-          → NextIs q queue′ store′ codes costs (After.More (progress left (g .stored + 1) (g .listed) (g .tested + 1) (g .learned + 1) (g .unkept) u)) after
+          → NextIs q queue′ store′ codes costs values (After.More (progress left (g .stored + 1) (g .listed) (g .tested + 1) (g .learned + 1) (g .unkept) u)) after
       unfolding learn
       learn-conflict {m} {x} {u} e left queue′ store′ long appended sieved =
           let k : Reduces (q .plant) (reduce (q .plant) limit (t .parent) trials) (Answer.Conflict m x u) = rw e at h in
@@ -158,6 +182,7 @@ module _ {q : Question} {limit : ℕ} {queue store codes costs : List ℕ} {g : 
               keeps = appended (length (q .plant .costs)) (t .state .store) (k .0) (written .keeps) (k .1 .words) (members ∙ length-map (q .plant .costs) length);
               codes-are = written .codes-are;
               costs-are = written .costs-are;
+              values-are = written .values-are;
               listed-is = written .listed-is;
               tested-is = omega (arith, written .tested-is);
               learned-is = omega (arith, written .learned-is);
@@ -173,7 +198,7 @@ module _ {q : Question} {limit : ℕ} {queue store codes costs : List ℕ} {g : 
   judged = judge (q .plant) (orderOf (q .plant)) (q .wanted) (length queue / 2) (length store / 2) limit (t .state) (t .rest) (t .parent)
 
   -- the tests are at their greatest count
-  pub judge-most : (later : List ℕ) → g .tested ≡ mostTested → NextIs q later store codes costs (After.Ended Ended.Spent g) judged
+  pub judge-most : (later : List ℕ) → g .tested ≡ mostTested → NextIs q later store codes costs values (After.Ended Ended.Spent g) judged
   unfolding judge
   judge-most later e = rw (judge, le-ltb (t .state .tested) mostTested (omega (arith, written .tested-is))) (refl, written)
 
@@ -186,7 +211,7 @@ module _ {q : Question} {limit : ℕ} {queue store codes costs : List ℕ} {g : 
     counted e h = rw (written .trials-is) at h
 
     -- the limit struck in the test
-    pub judge-spent : {u : ℕ} (later : List ℕ) → test (q .plant) limit (t .parent) (g .trials) ≡ Tested.spent u → NextIs q later store codes costs (After.Ended Ended.Spent (progress (g .queued) (g .stored) (g .listed) (g .tested) (g .learned) (g .unkept) u)) judged
+    pub judge-spent : {u : ℕ} (later : List ℕ) → test (q .plant) limit (t .parent) (g .trials) ≡ Tested.spent u → NextIs q later store codes costs values (After.Ended Ended.Spent (progress (g .queued) (g .stored) (g .listed) (g .tested) (g .learned) (g .unkept) u)) judged
     unfolding judge
     judge-spent {u} later e = rw (judge, lt-ltb (t .state .tested) mostTested below, counted (Tested.spent u) e) (
       refl,
@@ -194,6 +219,7 @@ module _ {q : Question} {limit : ℕ} {queue store codes costs : List ℕ} {g : 
         keeps = written .keeps;
         codes-are = written .codes-are;
         costs-are = written .costs-are;
+        values-are = written .values-are;
         listed-is = written .listed-is;
         tested-is = written .tested-is;
         learned-is = written .learned-is;
@@ -208,10 +234,11 @@ module _ {q : Question} {limit : ℕ} {queue store codes costs : List ℕ} {g : 
     judge-learn {u} e = rw (judge, lt-ltb (t .state .tested) mostTested below, counted (inconsistent u) e)
 
     -- it was consistent: the state is listed
-    pub judge-listed : {f : List ℕ} {u : ℕ} → isFull (t .parent) ≡ true → test (q .plant) limit (t .parent) (g .trials) ≡ consistent f u
-        → NextIs q queue store (set codes (g .listed) (node .code)) (set costs (g .listed) (node .cost)) (After.More (progress (g .queued) (g .stored) (g .listed + 1) (g .tested + 1) (g .learned) (g .unkept) u)) judged
-    unfolding judge
-    judge-listed {f} {u} full e =
+    pub judge-listed : {f : List ℕ} {u : ℕ} {bytes : List ℕ} → isFull (t .parent) ≡ true → test (q .plant) limit (t .parent) (g .trials) ≡ consistent f u
+        → bytes ≡ shownBy (test (q .plant) limit (t .parent) (g .trials))
+        → NextIs q queue store (set codes (g .listed) (node .code)) (set costs (g .listed) (node .cost)) (put (stateBytes * g .listed) bytes values) (After.More (progress (g .queued) (g .stored) (g .listed + 1) (g .tested + 1) (g .learned) (g .unkept) u)) judged
+    unfolding judge shownBy
+    judge-listed {f} {u} {bytes} full e s =
         let o = orderOf (q .plant) in
         let b : best (o .preferred) (t .parent) ≡ valueList (t .parent) =
         full-best (decisionSizes (q .plant)) (o .preferred) (t .parent) (cost-lawful (q .plant) few (t .is .accepted .decision-sizes) .preferred) (t .is .valid) full in
@@ -224,6 +251,7 @@ module _ {q : Question} {limit : ℕ} {queue store codes costs : List ℕ} {g : 
                 (t .is .code-is ∙ ap code b) (omega (arith, t .wanting, t .turn .codes-room));
             costs-are = written-more (o .figure) (t .state .listed) (valueList (t .parent)) (q .costs) costs (g .listed) (node .cost) (written .costs-are) (written .listed-is)
                 (t .is .cost-is ∙ ap (o .figure) b) (omega (arith, t .wanting, t .turn .costs-room));
+            values-are = values-more (t .state .shown) f (q .values) values bytes (g .listed) (length (t .state .listed)) (written .values-are) shown-so-far (written .listed-is) (s ∙ ap shownBy e);
             listed-is = simp length-append (omega (arith, written .listed-is));
             tested-is = omega (arith, written .tested-is);
             learned-is = written .learned-is;

@@ -3,11 +3,13 @@ use mathlib.Core.Path.{_≡_}
 use mathlib.Core.List.{List, _∷_, map}
 use Prim.Native.Nat.{ℕ, _+_, _*_, _≤_, _<_}
 use lib.ListN.{length, set}
-use Rattle.model.specs.Lists.{filled}
+use Rattle.model.specs.Lists.{filled, inTurn}
 use Rattle.model.specs.Sheet.{Plant}
 use Rattle.model.specs.Assignment.{Assignment, code}
 use Rattle.model.specs.Order.{orderOf}
+use Rattle.model.specs.Calls.{stateBytes, valueBytes}
 use Rattle.model.specs.Listing.{State, Ending, enough, all, full, spent, Next, ended, more, mostTested}
+use Rattle.theory.specs.Puts.{written}
 use Rattle.theory.specs.Run.{Going}
 use Rattle.queue.specs.Queue.{Holds}
 use Rattle.store.specs.Store.{Keeps}
@@ -17,18 +19,20 @@ use Rattle.judge.specs.declared.Progress.{Progress}
 use Rattle.judge.specs.declared.Ending.{Ending as Ended}
 use Rattle.judge.specs.declared.Next.{Next as After}
 
--- what a run is about: the plant, how many states are wanted, and what codes and costs held before
+-- what a run is about: the plant, how many states are wanted, and what codes, costs and values held before
 pub record Question : Type 0 where
   pub plant : Plant
   pub wanted : ℕ
   pub codes : List ℕ
   pub costs : List ℕ
+  pub values : List ℕ
 
 -- the store, the list and the counts are those of a state
-pub record Written (q : Question) (store codes costs : List ℕ) (g : Progress) (s : State) : Type 0 where
+pub record Written (q : Question) (store codes costs values : List ℕ) (g : Progress) (s : State) : Type 0 where
   pub keeps : Keeps (length (q .plant .costs)) store (g .stored) (s .store)
   pub codes-are : codes ≡ filled (map code (s .listed)) (q .codes)
   pub costs-are : costs ≡ filled (map (orderOf (q .plant) .figure) (s .listed)) (q .costs)
+  pub values-are : values ≡ filled (inTurn valueBytes (s .shown)) (q .values)
   pub listed-is : g .listed ≡ length (s .listed)
   pub tested-is : g .tested ≡ s .tested
   pub learned-is : g .learned ≡ s .learned
@@ -36,27 +40,28 @@ pub record Written (q : Question) (store codes costs : List ℕ) (g : Progress) 
   pub trials-is : g .trials ≡ s .trials
 
 -- and the queue holds these nodes
-pub record Standing (q : Question) (queue store codes costs : List ℕ) (g : Progress) (s : State) (nodes : List Assignment) : Type 0 where
+pub record Standing (q : Question) (queue store codes costs values : List ℕ) (g : Progress) (s : State) (nodes : List Assignment) : Type 0 where
   pub holds : Holds (orderOf (q .plant)) (g .queued) queue nodes
   pub room : 2 * g .queued ≤ length queue
-  pub written : Written q store codes costs g s
+  pub written : Written q store codes costs values g s
 
 -- ---- a step
 
 -- the words stand for a state of a run that goes on
-pub record Turn (q : Question) (limit : ℕ) (queue store codes costs : List ℕ) (g : Progress) (s : State) (nodes : List Assignment) : Type 0 where
+pub record Turn (q : Question) (limit : ℕ) (queue store codes costs values : List ℕ) (g : Progress) (s : State) (nodes : List Assignment) : Type 0 where
   pub survivors : List Assignment
   pub going : Going (q .plant) (orderOf (q .plant)) (q .wanted) limit survivors s
-  pub standing : Standing q queue store codes costs g s nodes
+  pub standing : Standing q queue store codes costs values g s nodes
   pub codes-room : q .wanted ≤ length (q .codes)
   pub costs-room : q .wanted ≤ length (q .costs)
+  pub values-room : stateBytes * q .wanted ≤ length (q .values)
 
 -- a node has been removed, and fewer states are listed than are wanted
-pub record Removed (q : Question) (limit : ℕ) (queue store codes costs : List ℕ) (g : Progress) (node : Node) : Type 0 where
+pub record Removed (q : Question) (limit : ℕ) (queue store codes costs values : List ℕ) (g : Progress) (node : Node) : Type 0 where
   pub state : State
   pub parent : Assignment
   pub rest : List Assignment
-  pub turn : Turn q limit queue store codes costs g state rest
+  pub turn : Turn q limit queue store codes costs values g state rest
   pub removed : state .queue ≡ parent ∷ rest
   pub is : NodeIs (q .plant) parent node
   pub wanting : length (state .listed) < q .wanted
@@ -73,10 +78,11 @@ pub record CanCount (g : Progress) : Type 0 where
 abbrev pub counted : Progress → ℕ → Progress
 counted g trials = record { queued = g .queued; stored = g .stored; listed = g .listed; tested = g .tested + 1; learned = g .learned; unkept = g .unkept; trials = trials }
 
--- a state more has been listed: the node's, whose code and cost are written behind the others
-pub record ListedOne (g : Progress) (node : Node) (trials : ℕ) (codes costs codes′ costs′ : List ℕ) (r : Progress) : Type 0 where
+-- a state more has been listed: the node's, whose code, cost and values are written behind the others
+pub record ListedOne (g : Progress) (node : Node) (trials : ℕ) (shown codes costs values codes′ costs′ values′ : List ℕ) (r : Progress) : Type 0 where
   pub codes-are : codes′ ≡ set codes (g .listed) (node .code)
   pub costs-are : costs′ ≡ set costs (g .listed) (node .cost)
+  pub values-are : values′ ≡ written (stateBytes * g .listed) shown values
   pub progress-is : r ≡ record { queued = g .queued; stored = g .stored; listed = g .listed + 1; tested = g .tested + 1; learned = g .learned; unkept = g .unkept; trials = trials }
 
 -- the ending's name in the model
@@ -87,8 +93,8 @@ endingOf Ended.Full = full
 endingOf Ended.Spent = spent
 
 -- what a step made of the words is what it makes of the state
-abbrev pub NextIs : Question → (queue store codes costs : List ℕ) → After → Next → Type 0
-NextIs q queue store codes costs (After.More g) (more s) = Standing q queue store codes costs g s (s .queue)
-NextIs q queue store codes costs (After.Ended e g) (ended f s) = (endingOf e ≡ f) × Written q store codes costs g s
-NextIs q queue store codes costs (After.More g) (ended f s) = ⊥
-NextIs q queue store codes costs (After.Ended e g) (more s) = ⊥
+abbrev pub NextIs : Question → (queue store codes costs values : List ℕ) → After → Next → Type 0
+NextIs q queue store codes costs values (After.More g) (more s) = Standing q queue store codes costs values g s (s .queue)
+NextIs q queue store codes costs values (After.Ended e g) (ended f s) = (endingOf e ≡ f) × Written q store codes costs values g s
+NextIs q queue store codes costs values (After.More g) (ended f s) = ⊥
+NextIs q queue store codes costs values (After.Ended e g) (more s) = ⊥

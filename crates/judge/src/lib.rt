@@ -6,17 +6,20 @@ use children::Node;
 use clauses::sets::Sat;
 use conflict::reduce::Reduced;
 use conflict::reduce::reduce;
-use conflict::tests::tested;
+use conflict::tests::test_shown;
 use limits::MOST_TESTED;
+use limits::STATE_BYTES;
 use plan::Plan;
+use text::put_bytes;
 use trials::Answer;
 ghost use mathlib.Core.Path.{_≡_};
 ghost use mathlib.Core.Bool.{true};
 ghost use mathlib.Core.List.{List};
-ghost use Prim.Native.Nat.{ℕ, _*_, _/_, _≤_, _<_};
+ghost use Prim.Native.Nat.{ℕ, _+_, _*_, _/_, _≤_, _<_};
 ghost use lib.ListN.{length};
 ghost use Rattle.model.specs.Assignment.{isFull};
 ghost use Rattle.model.specs.Order.{orderOf};
+ghost use Rattle.model.specs.Calls.{stateBytes};
 ghost use Rattle.model.specs.Listing.{mostTested, learn, judge};
 ghost use Rattle.theory.specs.Tables.{Tabled};
 ghost use Rattle.conflict.specs.Given.{Ready};
@@ -79,9 +82,9 @@ fn learn(
     limit: u32,
 ) -> Next
     requires { ⌜ Ready d (now sizes) (now counts) (now lits) (now sat) (now uses) (now plan) × CanCount g × (2 * g .queued ≤ length (now queue)) ⌝ }
-    ensures answer { λ r. ⌜ ((q : Question) (prices codes costs : List ℕ) → Tabled (q .plant) d (now (sizes .entry)) prices (now (counts .entry)) (now (lits .entry))
-        → (t : Removed q limit (now (queue .entry)) (now (store .entry)) codes costs g node)
-        → NextIs q (now (queue .exit)) (now (store .exit)) codes costs r
+    ensures answer { λ r. ⌜ ((q : Question) (prices codes costs values : List ℕ) → Tabled (q .plant) d (now (sizes .entry)) prices (now (counts .entry)) (now (lits .entry))
+        → (t : Removed q limit (now (queue .entry)) (now (store .entry)) codes costs values g node)
+        → NextIs q (now (queue .exit)) (now (store .exit)) codes costs values r
         (learn (q .plant) (orderOf (q .plant)) (q .wanted) (length (now (queue .entry)) / 2) (length (now (store .entry)) / 2) limit (t .state) (t .rest) (t .parent) trials)) ⌝ }
     ensures long { λ _. ⌜ length (now (plan .exit)) ≡ planWords ⌝ }
 {
@@ -118,14 +121,23 @@ fn learn(
     }
 }
 
-// Step 7 after a test that was consistent with so many trials: the node's state is listed.
-fn list(codes: &mut [u64], costs: &mut [u32], g: Progress, node: Node, trials: u32) -> Progress
-    requires { ⌜ CanCount g × (g .listed ≤ g .tested) × (g .listed < length (now codes)) × (g .listed < length (now costs)) ⌝ }
-    ensures { λ r. ⌜ ListedOne g node trials (now (codes .entry)) (now (costs .entry)) (now (codes .exit)) (now (costs .exit)) r ⌝ }
+// Step 7 after a test that was consistent with so many trials: the node's state is listed, with the values that the test shows.
+fn list(
+    codes: &mut [u64],
+    costs: &mut [u32],
+    values: &mut [u8],
+    g: Progress,
+    node: Node,
+    trials: u32,
+    shown: &[u8; STATE_BYTES],
+) -> Progress
+    requires { ⌜ CanCount g × (g .listed ≤ g .tested) × (g .listed < length (now codes)) × (g .listed < length (now costs)) × (stateBytes * g .listed + stateBytes ≤ length (now values)) ⌝ }
+    ensures { λ r. ⌜ ListedOne g node trials (now (shown .entry)) (now (codes .entry)) (now (costs .entry)) (now (values .entry)) (now (codes .exit)) (now (costs .exit)) (now (values .exit)) r ⌝ }
 {
     let at = g.listed as usize;
     codes[at] = node.code;
     costs[at] = node.cost;
+    put_bytes(values, STATE_BYTES * at, shown);
     Progress {
         listed: g.listed + 1,
         ..g.counted(trials)
@@ -143,23 +155,24 @@ pub fn judge(
     plan: &mut Plan,
     codes: &mut [u64],
     costs: &mut [u32],
+    values: &mut [u8],
     queue: &mut [u64],
     store: &mut [u64],
     g: Progress,
     node: Node,
     limit: u32,
 ) -> Next
-    requires { ⌜ Ready d (now sizes) (now counts) (now lits) (now sat) (now uses) (now plan) × ((q : Question) × Removed q limit (now queue) (now store) (now codes) (now costs) g node) ⌝ }
+    requires { ⌜ Ready d (now sizes) (now counts) (now lits) (now sat) (now uses) (now plan) × ((q : Question) × Removed q limit (now queue) (now store) (now codes) (now costs) (now values) g node) ⌝ }
     ensures answer { λ r. ⌜ ((q : Question) (prices : List ℕ) → Tabled (q .plant) d (now (sizes .entry)) prices (now (counts .entry)) (now (lits .entry))
-        → (t : Removed q limit (now (queue .entry)) (now (store .entry)) (now (codes .entry)) (now (costs .entry)) g node) → isFull (t .parent) ≡ true
-        → NextIs q (now (queue .exit)) (now (store .exit)) (now (codes .exit)) (now (costs .exit)) r
+        → (t : Removed q limit (now (queue .entry)) (now (store .entry)) (now (codes .entry)) (now (costs .entry)) (now (values .entry)) g node) → isFull (t .parent) ≡ true
+        → NextIs q (now (queue .exit)) (now (store .exit)) (now (codes .exit)) (now (costs .exit)) (now (values .exit)) r
         (judge (q .plant) (orderOf (q .plant)) (q .wanted) (length (now (queue .entry)) / 2) (length (now (store .entry)) / 2) limit (t .state) (t .rest) (t .parent))) ⌝ }
     ensures long { λ _. ⌜ length (now (plan .exit)) ≡ planWords ⌝ }
 {
     if g.tested == MOST_TESTED {
         return Next::Ended(Ending::Spent, g);
     }
-    match tested(
+    let test = test_shown(
         d,
         sizes,
         counts,
@@ -171,7 +184,10 @@ pub fn judge(
         children::values(node),
         g.trials,
         limit,
-    ) {
+    );
+    let answer = test.answer;
+    let shown = test.values;
+    match answer {
         Answer::Spent(t) => Next::Ended(Ending::Spent, Progress { trials: t, ..g }),
         Answer::Inconsistent(t) => learn(
             d,
@@ -188,6 +204,6 @@ pub fn judge(
             t,
             limit,
         ),
-        Answer::Consistent(t) => Next::More(list(codes, costs, g, node, t)),
+        Answer::Consistent(t) => Next::More(list(codes, costs, values, g, node, t, &shown)),
     }
 }

@@ -8,6 +8,9 @@ pub const DECISIONS: usize = 16;
 // Decision and state variables together.
 pub const VARIABLES: usize = 48;
 
+// Bytes that show the values of a state, one for each variable that a plant can have.
+pub const STATE_BYTES: usize = 48;
+
 // Values of a variable.
 pub const VALUES: usize = 16;
 

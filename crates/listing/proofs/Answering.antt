@@ -25,18 +25,18 @@ abbrev pub lists-of : {p : Plant} {d : ℕ} {sizes prices counts lits sat uses p
 lists-of {p = p} t s l e r = record { plant = p; tables = record { tabled = t; prepared = s; planned = l; preferred-is = e }; room = r }
 
 -- the store has room for the conflicts that it keeps at the end
-pub finished-room : {q : Question} {store codes costs : List ℕ} {f : Finished} {n : Next} → FinishedAs q store codes costs f n → 2 * f .progress .stored ≤ length store
+pub finished-room : {q : Question} {store codes costs values : List ℕ} {f : Finished} {n : Next} → FinishedAs q store codes costs values f n → 2 * f .progress .stored ≤ length store
 finished-room h = keeps-room (h .written .keeps)
 
 -- what is answered after the queue and the store have been zeroed is what the model's call answers
-pub finished-called : (p : Plant) (k held limit : ℕ) (codes costs queue store : List ℕ) {codesEnd costsEnd queueEnd storeEnd queueAfter storeAfter : List ℕ} {f : Finished} {r : Answers}
-    → FinishedAs (question p k codes costs) storeEnd codesEnd costsEnd f (listing p (orderOf p) k (length queue / 2) (length store / 2) (offersOf held store) limit)
+pub finished-called : (p : Plant) (k held limit : ℕ) (codes costs values queue store : List ℕ) {codesEnd costsEnd valuesEnd queueEnd storeEnd queueAfter storeAfter : List ℕ} {f : Finished} {r : Answers}
+    → FinishedAs (question p k codes costs values) storeEnd codesEnd costsEnd valuesEnd f (listing p (orderOf p) k (length queue / 2) (length store / 2) (offersOf held store) limit)
     → length queueEnd ≡ length queue → length storeEnd ≡ length store → Finishes f queueEnd storeEnd queueAfter storeAfter r
-    → CalledAs r (buffers codesEnd costsEnd queueAfter storeAfter) (plantCall p k (buffers codes costs queue store) held limit)
+    → CalledAs r (buffers codesEnd costsEnd valuesEnd queueAfter storeAfter) (plantCall p k (buffers codes costs values queue store) held limit)
 unfolding runOf calledOf buffersAfter
-finished-called p k held limit codes costs queue store h eq es g =
+finished-called p k held limit codes costs values queue store h eq es g =
     let w = h .written in
     rw (runOf, h .ends) (record {
       answer-is = g .answer-is ∙ rw (w .listed-is, w .tested-is, w .learned-is, w .unkept-is, w .trials-is);
-      after-is = rw (w .codes-are, w .costs-are, g .queue-is, eq, g .store-is _ _ (w .keeps), es);
+      after-is = rw (w .codes-are, w .costs-are, w .values-are, g .queue-is, eq, g .store-is _ _ (w .keeps), es);
     })

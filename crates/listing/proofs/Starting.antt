@@ -70,13 +70,14 @@ module _ {p : Plant} {d : ℕ} {sizes prices counts lits : List ℕ} (t : Tabled
 -- ---- the words at the start
 
 -- the store, the list and the counts are those of the start
-start-written : {p : Plant} {limit : ℕ} {survivors : List Assignment} {used : ℕ} {store : List ℕ} {stored : ℕ} (k : ℕ) (codes costs : List ℕ) (queued : ℕ)
-    → Survivors p limit survivors used store stored → Written (question p k codes costs) store codes costs (first queued stored used) (start (decisionSizes p) survivors used)
+start-written : {p : Plant} {limit : ℕ} {survivors : List Assignment} {used : ℕ} {store : List ℕ} {stored : ℕ} (k : ℕ) (codes costs values : List ℕ) (queued : ℕ)
+    → Survivors p limit survivors used store stored → Written (question p k codes costs values) store codes costs values (first queued stored used) (start (decisionSizes p) survivors used)
 unfolding start
-start-written k codes costs queued s = record {
+start-written k codes costs values queued s = record {
   keeps = s .keeps;
   codes-are = refl;
   costs-are = refl;
+  values-are = refl;
   listed-is = refl;
   tested-is = refl;
   learned-is = refl;
@@ -84,35 +85,36 @@ start-written k codes costs queued s = record {
   trials-is = refl;
 }
 
-module _ {d : ℕ} {sizes prices counts lits sat uses plan : List ℕ} {preferred k held : ℕ} {codes costs queue store : List ℕ}
-    (t : Lists d sizes prices counts lits sat uses plan preferred k held (buffers codes costs queue store)) where
+module _ {d : ℕ} {sizes prices counts lits sat uses plan : List ℕ} {preferred k held : ℕ} {codes costs values queue store : List ℕ}
+    (t : Lists d sizes prices counts lits sat uses plan preferred k held (buffers codes costs values queue store)) where
   -- what the tables give still holds with another plan and another store
-  abbrev pub lists-again : {plan′ store′ : List ℕ} → length plan′ ≡ planWords → Lists d sizes prices counts lits sat uses plan′ preferred k 0 (buffers codes costs queue store′)
+  abbrev pub lists-again : {plan′ store′ : List ℕ} → length plan′ ≡ planWords → Lists d sizes prices counts lits sat uses plan′ preferred k 0 (buffers codes costs values queue store′)
   lists-again l = record {
     plant = t .plant;
     tables = record { tabled = t .tables .tabled; prepared = t .tables .prepared; planned = l; preferred-is = t .tables .preferred-is };
-    room = record { codes-room = t .room .codes-room; costs-room = t .room .costs-room; queue-room = t .room .queue-room; store-room = omega arith };
+    room = record { codes-room = t .room .codes-room; costs-room = t .room .costs-room; values-room = t .room .values-room; queue-room = t .room .queue-room; store-room = omega arith };
   }
 
   module _ {limit : ℕ} {survivors : List Assignment} {used : ℕ} {store′ : List ℕ} {stored : ℕ} (s : Survivors (t .plant) limit survivors used store′ stored) where
     -- with the root in the queue
     pub start-turn : (queue′ : List ℕ) → length queue′ ≡ length queue → Holds (orderOf (t .plant)) 1 queue′ (enqueue (orderOf (t .plant)) (unassigned (decisionSizes (t .plant))) [])
-        → Turn (question (t .plant) k codes costs) limit queue′ store′ codes costs (first 1 stored used) (start (decisionSizes (t .plant)) survivors used) (start (decisionSizes (t .plant)) survivors used .queue)
+        → Turn (question (t .plant) k codes costs values) limit queue′ store′ codes costs values (first 1 stored used) (start (decisionSizes (t .plant)) survivors used) (start (decisionSizes (t .plant)) survivors used .queue)
     unfolding start place
     start-turn queue′ e h =
         let b = t .tables .tabled in
         record {
           survivors = survivors;
           going = start-going (t .plant) (orderOf (t .plant)) (tabled-lawful b) (tabled-present b) (tabled-at-least b) k limit survivors used (s .conflicts) (s .within);
-          standing = record { holds = h; room = omega (arith, t .room .queue-room); written = start-written k codes costs 1 s };
+          standing = record { holds = h; room = omega (arith, t .room .queue-room); written = start-written k codes costs values 1 s };
           codes-room = t .room .codes-room;
           costs-room = t .room .costs-room;
+          values-room = t .room .values-room;
         }
 
     abbrev pub start-steps : {g : Progress} → g ≡ first 1 stored used → (queue′ : List ℕ) → length queue′ ≡ length queue → Holds (orderOf (t .plant)) 1 queue′ (enqueue (orderOf (t .plant)) (unassigned (decisionSizes (t .plant))) [])
-        → Steps d sizes prices counts lits sat uses plan preferred k limit codes costs queue′ store′ g
+        → Steps d sizes prices counts lits sat uses plan preferred k limit codes costs values queue′ store′ g
     start-steps f queue′ e h = record {
-      question = question (t .plant) k codes costs;
+      question = question (t .plant) k codes costs values;
       state = start (decisionSizes (t .plant)) survivors used;
       asked = refl;
       tables = t .tables;
@@ -126,8 +128,8 @@ start-enough ss survivors used = omega arith
 
 -- ---- step 1
 
-module _ {d : ℕ} {sizes prices counts lits sat uses plan : List ℕ} {preferred k held : ℕ} {codes costs queue store : List ℕ}
-    (t : Lists d sizes prices counts lits sat uses plan preferred k held (buffers codes costs queue store)) (limit : ℕ) where
+module _ {d : ℕ} {sizes prices counts lits sat uses plan : List ℕ} {preferred k held : ℕ} {codes costs values queue store : List ℕ}
+    (t : Lists d sizes prices counts lits sat uses plan preferred k held (buffers codes costs values queue store)) (limit : ℕ) where
   -- how step 1 ends
   abbrev offered : Checked
   offered = checkOffers (t .plant) limit [] (offersOf held store) 0
@@ -141,17 +143,17 @@ module _ {d : ℕ} {sizes prices counts lits sat uses plan : List ℕ} {preferre
     checked-survivors o = let s : Survived (t .plant) limit (checked (o .0) used) = rw (o .2) at survived in record { keeps = o .1; conflicts = s .0; within = s .1 }
 
     -- and the listing is the run from there
-    pub checked-ends : (f : Finished) (codes′ costs′ : List ℕ) (o : OfferedAs (t .plant) after (Offered.Checked m used) offered) (store′ : List ℕ) → length after ≡ length store
-        → FinishedAs (question (t .plant) k codes costs) store′ codes′ costs′ f
+    pub checked-ends : (f : Finished) (codes′ costs′ values′ : List ℕ) (o : OfferedAs (t .plant) after (Offered.Checked m used) offered) (store′ : List ℕ) → length after ≡ length store
+        → FinishedAs (question (t .plant) k codes costs values) store′ codes′ costs′ values′ f
         (run (t .plant) (orderOf (t .plant)) k (length queue / 2) (length after / 2) limit (enoughSteps (decisionSizes (t .plant))) (start (decisionSizes (t .plant)) (o .0) used))
-        → FinishedAs (question (t .plant) k codes costs) store′ codes′ costs′ f
+        → FinishedAs (question (t .plant) k codes costs values) store′ codes′ costs′ values′ f
         (listing (t .plant) (orderOf (t .plant)) k (length queue / 2) (length store / 2) (offersOf held store) limit)
     unfolding listing
-    checked-ends f codes′ costs′ o store′ e h = rw (listing, o .2, ← e) h
+    checked-ends f codes′ costs′ values′ o store′ e h = rw (listing, o .2, ← e) h
 
     -- the limit struck before the last
     pub broken-ends : {g : Progress} → g ≡ first 0 m used → OfferedAs (t .plant) after (Offered.BrokenOff m used) offered
-        → FinishedAs (question (t .plant) k codes costs) after codes costs (record { ending = Ended.Spent; progress = g })
+        → FinishedAs (question (t .plant) k codes costs values) after codes costs values (record { ending = Ended.Spent; progress = g })
         (listing (t .plant) (orderOf (t .plant)) k (length queue / 2) (length store / 2) (offersOf held store) limit)
     unfolding listing
     broken-ends f o =
@@ -160,5 +162,5 @@ module _ {d : ℕ} {sizes prices counts lits sat uses plan : List ℕ} {preferre
         record {
           state = start (decisionSizes (t .plant)) (o .0) used;
           ends = rw (listing, o .2);
-          written = rw f (start-written k codes costs 0 (record { keeps = o .1; conflicts = s .0; within = within }));
+          written = rw f (start-written k codes costs values 0 (record { keeps = o .1; conflicts = s .0; within = within }));
         }

@@ -8,7 +8,7 @@ use Rattle.model.specs.Sheet.{Plant}
 use Rattle.model.specs.Assignment.{Assignment}
 use Rattle.model.specs.Conflict.{Conflict}
 use Rattle.model.specs.Order.{orderOf}
-use Rattle.model.specs.Calls.{refused, answered, Buffers, Counts, ran, Answer, Called, entryWords, runOf, calledOf}
+use Rattle.model.specs.Calls.{refused, answered, Buffers, Counts, ran, Answer, Called, stateBytes, entryWords, runOf, calledOf}
 use Rattle.store.specs.Store.{Keeps}
 use Rattle.refusal.specs.Refusal.{refusalOf}
 use Rattle.steps.specs.declared.Finished.{Finished}
@@ -18,11 +18,11 @@ use Rattle.expand.specs.Expands.{Tables}
 use Rattle.listing.specs.declared.Answer.{Answer as Answers}
 use Rattle.listing.specs.declared.Counts.{Counts as Tallies}
 
-abbrev pub question : Plant → ℕ → (codes costs : List ℕ) → Question
-question p k codes costs = record { plant = p; wanted = k; codes = codes; costs = costs }
+abbrev pub question : Plant → ℕ → (codes costs values : List ℕ) → Question
+question p k codes costs values = record { plant = p; wanted = k; codes = codes; costs = costs; values = values }
 
-abbrev pub buffers : (codes costs queue store : List ℕ) → Buffers
-buffers codes costs queue store = record { codes = codes; costs = costs; queue = queue; store = store }
+abbrev pub buffers : (codes costs values queue store : List ℕ) → Buffers
+buffers codes costs values queue store = record { codes = codes; costs = costs; values = values; queue = queue; store = store }
 
 -- ---- over decoded tables
 
@@ -30,6 +30,7 @@ buffers codes costs queue store = record { codes = codes; costs = costs; queue =
 pub record Room (k held : ℕ) (b : Buffers) : Type 0 where
   pub codes-room : k ≤ length (b .codes)
   pub costs-room : k ≤ length (b .costs)
+  pub values-room : stateBytes * k ≤ length (b .values)
   pub queue-room : 2 ≤ length (b .queue)
   pub store-room : 2 * held ≤ length (b .store)
 

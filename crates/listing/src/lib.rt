@@ -84,6 +84,7 @@ fn from_root(
     preferred: u64,
     codes: &mut [u64],
     costs: &mut [u32],
+    values: &mut [u8],
     queue: &mut [u64],
     store: &mut [u64],
     stored: usize,
@@ -91,11 +92,11 @@ fn from_root(
     k: u32,
     limit: u32,
 ) -> Finished
-    requires { ⌜ ((t : Lists d (now sizes) (now prices) (now counts) (now lits) (now sat) (now uses) (now plan) preferred k 0 (buffers (now codes) (now costs) (now queue) (now store)))
+    requires { ⌜ ((t : Lists d (now sizes) (now prices) (now counts) (now lits) (now sat) (now uses) (now plan) preferred k 0 (buffers (now codes) (now costs) (now values) (now queue) (now store)))
         × (survivors : List Assignment) × Survivors (t .plant) limit survivors used (now store) stored) ⌝ }
-    ensures { λ r. ⌜ ((t : Lists d (now (sizes .entry)) (now (prices .entry)) (now (counts .entry)) (now (lits .entry)) (now (sat .entry)) (now (uses .entry)) (now (plan .entry)) preferred k 0 (buffers (now (codes .entry)) (now (costs .entry)) (now (queue .entry)) (now (store .entry))))
+    ensures { λ r. ⌜ ((t : Lists d (now (sizes .entry)) (now (prices .entry)) (now (counts .entry)) (now (lits .entry)) (now (sat .entry)) (now (uses .entry)) (now (plan .entry)) preferred k 0 (buffers (now (codes .entry)) (now (costs .entry)) (now (values .entry)) (now (queue .entry)) (now (store .entry))))
         (survivors : List Assignment) → Survivors (t .plant) limit survivors used (now (store .entry)) stored
-        → FinishedAs (question (t .plant) k (now (codes .entry)) (now (costs .entry))) (now (store .exit)) (now (codes .exit)) (now (costs .exit)) r
+        → FinishedAs (question (t .plant) k (now (codes .entry)) (now (costs .entry)) (now (values .entry))) (now (store .exit)) (now (codes .exit)) (now (costs .exit)) (now (values .exit)) r
         (run (t .plant) (orderOf (t .plant)) k (length (now (queue .entry)) / 2) (length (now (store .entry)) / 2) limit (enoughSteps (decisionSizes (t .plant))) (start (decisionSizes (t .plant)) survivors used))) ⌝ }
 {
     let progress = first(1, stored, used);
@@ -114,6 +115,7 @@ fn from_root(
         preferred,
         codes,
         costs,
+        values,
         queue,
         store,
         progress,
@@ -135,15 +137,16 @@ fn listing(
     preferred: u64,
     codes: &mut [u64],
     costs: &mut [u32],
+    values: &mut [u8],
     queue: &mut [u64],
     store: &mut [u64],
     k: u32,
     held: usize,
     limit: u32,
 ) -> Finished
-    requires { ⌜ Lists d (now sizes) (now prices) (now counts) (now lits) (now sat) (now uses) (now plan) preferred k held (buffers (now codes) (now costs) (now queue) (now store)) ⌝ }
-    ensures { λ r. ⌜ ((t : Lists d (now (sizes .entry)) (now (prices .entry)) (now (counts .entry)) (now (lits .entry)) (now (sat .entry)) (now (uses .entry)) (now (plan .entry)) preferred k held (buffers (now (codes .entry)) (now (costs .entry)) (now (queue .entry)) (now (store .entry))))
-        → FinishedAs (question (t .plant) k (now (codes .entry)) (now (costs .entry))) (now (store .exit)) (now (codes .exit)) (now (costs .exit)) r
+    requires { ⌜ Lists d (now sizes) (now prices) (now counts) (now lits) (now sat) (now uses) (now plan) preferred k held (buffers (now codes) (now costs) (now values) (now queue) (now store)) ⌝ }
+    ensures { λ r. ⌜ ((t : Lists d (now (sizes .entry)) (now (prices .entry)) (now (counts .entry)) (now (lits .entry)) (now (sat .entry)) (now (uses .entry)) (now (plan .entry)) preferred k held (buffers (now (codes .entry)) (now (costs .entry)) (now (values .entry)) (now (queue .entry)) (now (store .entry))))
+        → FinishedAs (question (t .plant) k (now (codes .entry)) (now (costs .entry)) (now (values .entry))) (now (store .exit)) (now (codes .exit)) (now (costs .exit)) (now (values .exit)) r
         (listing (t .plant) (orderOf (t .plant)) k (length (now (queue .entry)) / 2) (length (now (store .entry)) / 2) (offersOf held (now (store .entry))) limit)) ⌝ }
 {
     match check_all(d, sizes, counts, lits, sat, uses, plan, store, held, limit) {
@@ -163,6 +166,7 @@ fn listing(
             preferred,
             codes,
             costs,
+            values,
             queue,
             store,
             m,
@@ -203,16 +207,17 @@ pub fn list_tables(
     lits: &[u8],
     codes: &mut [u64],
     costs: &mut [u32],
+    values: &mut [u8],
     queue: &mut [u64],
     store: &mut [u64],
     k: u32,
     held: usize,
     limit: u32,
 ) -> Answer
-    requires { ⌜ ((p : Plant) × Tabled p d (now sizes) (now prices) (now counts) (now lits)) × Room k held (buffers (now codes) (now costs) (now queue) (now store)) ⌝ }
+    requires { ⌜ ((p : Plant) × Tabled p d (now sizes) (now prices) (now counts) (now lits)) × Room k held (buffers (now codes) (now costs) (now values) (now queue) (now store)) ⌝ }
     ensures { λ r. ⌜ ((p : Plant) → Tabled p d (now (sizes .entry)) (now (prices .entry)) (now (counts .entry)) (now (lits .entry))
-        → CalledAs r (buffers (now (codes .exit)) (now (costs .exit)) (now (queue .exit)) (now (store .exit)))
-        (plantCall p k (buffers (now (codes .entry)) (now (costs .entry)) (now (queue .entry)) (now (store .entry))) held limit)) ⌝ }
+        → CalledAs r (buffers (now (codes .exit)) (now (costs .exit)) (now (values .exit)) (now (queue .exit)) (now (store .exit)))
+        (plantCall p k (buffers (now (codes .entry)) (now (costs .entry)) (now (values .entry)) (now (queue .entry)) (now (store .entry))) held limit)) ⌝ }
 {
     let mut sat = [0u64; SAT_WORDS];
     let mut uses = [0u64; USES_WORDS];
@@ -231,6 +236,7 @@ pub fn list_tables(
         preferred,
         codes,
         costs,
+        values,
         queue,
         store,
         k,

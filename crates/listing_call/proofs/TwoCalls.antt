@@ -1,8 +1,9 @@
 -- Two cabins: any two calls of `list` on one sheet, whatever else differs, never contradict each other. Assumes nothing.
 use mathlib.Core.List.{List}
 use Prim.Native.Nat.{ℕ}
+use Rattle.theory.specs.Shown.{ShownOn, SameValues}
 use Rattle.theory.specs.TwoRuns.{ListOn, NoContradiction}
-use Rattle.theory.proofs.Corollaries.{no-contradiction, promised-list}
+use Rattle.theory.proofs.Corollaries.{no-contradiction, promised-list, same-values, promised-values}
 use Rattle.listing_call.specs.TwoCalls.{ListCall, listOf}
 
 module _ {sheet : List ℕ} where
@@ -14,3 +15,13 @@ module _ {sheet : List ℕ} where
 
   pub two-calls : (c d : ListCall sheet) → NoContradiction (c .counts .listed) (d .counts .listed) (listOf c) (listOf d)
   two-calls c d = no-contradiction (call-list c) (call-list d)
+
+  -- a call shows each state that it lists
+  call-values : (c : ListCall sheet) → ShownOn sheet (c .counts .listed) (c .after)
+  call-values c =
+      let promise = c .ensures .1 in
+      promised-values (rw (c .run) at promise)
+
+  -- what two cabins see: where both list a state, they show the same values of all variables
+  pub two-calls-show : (c d : ListCall sheet) → SameValues (c .counts .listed) (d .counts .listed) (c .after) (d .after)
+  two-calls-show c d = same-values (call-values c) (call-values d)

@@ -2,6 +2,7 @@
 // plant.
 use limits::MOST_LISTED;
 use limits::MOST_WORDS;
+use limits::STATE_BYTES;
 use listing::Answer;
 use listing::list_tables;
 use refusal::Refusal;
@@ -21,21 +22,28 @@ fn unfit(
     k: u32,
     codes: usize,
     costs: usize,
+    values: usize,
     queue: usize,
     store: usize,
     held: usize,
     short: bool,
 ) -> u32
-    ensures { λ r. ⌜ ((b : Buffers) → length (b .codes) ≡ codes → length (b .costs) ≡ costs → length (b .queue) ≡ queue → length (b .store) ≡ store → r ≡ groundNumber (firstGiven (hostGrounds k b held short))) ⌝ }
+    ensures { λ r. ⌜ ((b : Buffers) → length (b .codes) ≡ codes → length (b .costs) ≡ costs → length (b .values) ≡ values → length (b .queue) ≡ queue → length (b .store) ≡ store → r ≡ groundNumber (firstGiven (hostGrounds k b held short))) ⌝ }
 {
     if !((1 <= k) & (k <= MOST_LISTED)) {
         return 1;
     }
     let wanted = k as usize;
-    if (codes < wanted) | (costs < wanted) | short {
+    let short_list = (codes < wanted) | (costs < wanted) | short;
+    let short_values = values < STATE_BYTES * wanted;
+    let wrong_queue = (queue % 2 == 1) | (queue < 2) | (queue > MOST_WORDS);
+    if short_list {
         return 2;
     }
-    if (queue % 2 == 1) | (queue < 2) | (queue > MOST_WORDS) {
+    if short_values {
+        return 19;
+    }
+    if wrong_queue {
         return 3;
     }
     if (store % 2 == 1) | (store > MOST_WORDS) | (store / 2 < held) {
@@ -50,19 +58,21 @@ pub fn list_with(
     k: u32,
     codes: &mut [u64],
     costs: &mut [u32],
+    values: &mut [u8],
     queue: &mut [u64],
     store: &mut [u64],
     held: usize,
     limit: u32,
     short: bool,
 ) -> Answer
-    ensures { λ r. ⌜ CalledAs r (buffers (now (codes .exit)) (now (costs .exit)) (now (queue .exit)) (now (store .exit)))
-        (listingWith (now (sheet .entry)) k (buffers (now (codes .entry)) (now (costs .entry)) (now (queue .entry)) (now (store .entry))) held limit short) ⌝ }
+    ensures { λ r. ⌜ CalledAs r (buffers (now (codes .exit)) (now (costs .exit)) (now (values .exit)) (now (queue .exit)) (now (store .exit)))
+        (listingWith (now (sheet .entry)) k (buffers (now (codes .entry)) (now (costs .entry)) (now (values .entry)) (now (queue .entry)) (now (store .entry))) held limit short) ⌝ }
 {
     let ground = unfit(
         k,
         codes.len(),
         costs.len(),
+        values.len(),
         queue.len(),
         store.len(),
         held,
@@ -87,6 +97,7 @@ pub fn list_with(
                 &lits,
                 codes,
                 costs,
+                values,
                 queue,
                 store,
                 k,
@@ -97,20 +108,32 @@ pub fn list_with(
     }
 }
 
-// The listing call: the leading states of the sheet's plant go to codes and costs.
+// The listing call: the leading states of the sheet's plant go to codes, costs and values.
 pub fn list(
     sheet: &[u8],
     k: u32,
     codes: &mut [u64],
     costs: &mut [u32],
+    values: &mut [u8],
     queue: &mut [u64],
     store: &mut [u64],
     held: usize,
     limit: u32,
 ) -> Answer
-    ensures { λ r. ⌜ (let before : Buffers = buffers (now (codes .entry)) (now (costs .entry)) (now (queue .entry)) (now (store .entry)) in
-        let after : Buffers = buffers (now (codes .exit)) (now (costs .exit)) (now (queue .exit)) (now (store .exit)) in
+    ensures { λ r. ⌜ (let before : Buffers = buffers (now (codes .entry)) (now (costs .entry)) (now (values .entry)) (now (queue .entry)) (now (store .entry)) in
+        let after : Buffers = buffers (now (codes .exit)) (now (costs .exit)) (now (values .exit)) (now (queue .exit)) (now (store .exit)) in
         (shown (listingCall (now (sheet .entry)) k before held limit) ≡ (answerOf r, after)) × Promises (now (sheet .entry)) k before held limit r after) ⌝ }
 {
-    list_with(sheet, k, codes, costs, queue, store, held, limit, false)
+    list_with(
+        sheet,
+        k,
+        codes,
+        costs,
+        values,
+        queue,
+        store,
+        held,
+        limit,
+        false,
+    )
 }

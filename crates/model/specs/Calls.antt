@@ -1,11 +1,11 @@
 -- Specification, "Who caused the refusal", "Exports to C" and the three calls whole: from every number and lent buffer before to the answer and every lent buffer after. Assumes nothing: these are definitions.
 use mathlib.Core.Bool.{Bool, true, false, not, _&&_, _||_}
 use mathlib.Core.Option.{Option, none, some}
-use mathlib.Core.List.{List, [], _∷_, map}
-use Prim.Native.Nat.{ℕ, zero, suc, _/_, _%_}
+use mathlib.Core.List.{List, [], _∷_, _++_, map}
+use Prim.Native.Nat.{ℕ, zero, suc, _-_, _*_, _/_, _%_}
 use lib.Dec.{ltb, leb, eqb}
-use lib.ListN.{length, replicate, take}
-use Rattle.model.specs.Lists.{filled}
+use lib.ListN.{length, replicate, take, drop}
+use Rattle.model.specs.Lists.{filled, inTurn}
 use Rattle.model.specs.Sheet.{Plant, Read, got, Edition, edition1, readSheet, decisionSizes}
 use Rattle.model.specs.Assignment.{Assignment, maskOf, valuesOf, assignmentOf, maskFits, valuesFit, code}
 use Rattle.model.specs.Consistency.{Tested, consistent, inconsistent, test}
@@ -36,6 +36,22 @@ firstGiven (g ∷ gs) = elim (g .given) [ true ↦ some (g .number) | false ↦ 
 
 abbrev pub ground : Bool → ℕ → Ground
 ground given number = record { given = given; number = number }
+
+-- ---- the values shown
+
+-- the bytes that show the values of a state: one for each variable that a plant can have
+abbrev pub stateBytes : ℕ
+stateBytes = 48
+
+-- the values of all variables, one byte a variable, and zero beyond
+unfoldable pub valueBytes : List ℕ → List ℕ
+valueBytes f = f ++ replicate (stateBytes - length f) 0
+
+-- a consistent test gives the value of every variable, the first complete success in trial order; any other answer gives zeros
+unfoldable pub shownBy : Tested → List ℕ
+shownBy (consistent f t) = valueBytes f
+shownBy (inconsistent t) = replicate stateBytes 0
+shownBy (Tested.spent t) = replicate stateBytes 0
 
 -- ---- the test and the reduction on words
 
@@ -68,10 +84,11 @@ reduceCall sheet mask values limit = onWords edition1 sheet mask values (λ p a.
 
 -- ---- the listing
 
--- the lent buffers of a listing, as words
+-- the lent buffers of a listing, as words, and the values as bytes
 pub record Buffers : Type 0 where
   pub codes : List ℕ
   pub costs : List ℕ
+  pub values : List ℕ
   pub queue : List ℕ
   pub store : List ℕ
 
@@ -109,11 +126,12 @@ mostListed = 4096
 abbrev pub mostWords : ℕ
 mostWords = 8192
 
--- the host's refusals before the sheet, in this order; `resultShort`: in the export, fewer than six result words
+-- the host's refusals before the sheet, in this order, 19 right after 2; `resultShort`: in the export, fewer than six result words
 unfoldable pub hostGrounds : ℕ → Buffers → ℕ → Bool → List Ground
 hostGrounds k b held resultShort =
     ground (not (leb 1 k && leb k mostListed)) 1
     ∷ ground (ltb (length (b .codes)) k || ltb (length (b .costs)) k || resultShort) 2
+    ∷ ground (ltb (length (b .values)) (stateBytes * k)) 19
     ∷ ground (odd (length (b .queue)) || ltb (length (b .queue)) 2 || ltb mostWords (length (b .queue))) 3
     ∷ ground (odd (length (b .store)) || ltb mostWords (length (b .store)) || ltb (length (b .store) / 2) held) 4
     ∷ []
@@ -130,11 +148,12 @@ unfoldable pub entryWords : List Assignment → List ℕ
 entryWords [] = []
 entryWords (c ∷ cs) = maskOf c ∷ valuesOf c ∷ entryWords cs
 
--- after every ending the queue is zero; the store holds survivors checked so far, then learned, then zeros; codes and costs beyond listed are unchanged
+-- after every ending the queue is zero; the store holds survivors checked so far, then learned, then zeros; codes, costs and values beyond listed are unchanged
 unfoldable pub buffersAfter : Order → Buffers → State → Buffers
 buffersAfter o b s = record {
   codes = filled (map code (s .listed)) (b .codes);
   costs = filled (map (o .figure) (s .listed)) (b .costs);
+  values = filled (inTurn valueBytes (s .shown)) (b .values);
   queue = replicate (length (b .queue)) 0;
   store = filled (entryWords (s .store)) (replicate (length (b .store)) 0);
 }
@@ -148,6 +167,10 @@ entriesOf (c ∷ cs) (d ∷ ds) = record { code = c; figure = d } ∷ entriesOf 
 -- a run's list: its first codes with their costs, as many as listed says
 abbrev pub runList : ℕ → Buffers → List Entry
 runList listed b = entriesOf (take listed (b .codes)) (take listed (b .costs))
+
+-- the bytes that show the values of the state at a place of the list
+abbrev pub stateValues : ℕ → Buffers → List ℕ
+stateValues i b = take stateBytes (drop (stateBytes * i) (b .values))
 
 abbrev pub countsOf : State → Counts
 countsOf s = record { listed = length (s .listed); tested = s .tested; learned = s .learned; unkept = s .unkept; trials = s .trials }
@@ -216,14 +239,18 @@ testWords (consistent f t) = 1 ∷ t ∷ []
 testWords (inconsistent t) = 2 ∷ t ∷ []
 testWords (Tested.spent t) = 3 ∷ t ∷ []
 
--- what the export of the test returns, and the result words after it: words beyond the two are unchanged
-abbrev pub testWritten : List ℕ → Answered Tested → ℕ × List ℕ
-testWritten result (refused r) = (refusalNumber r, result)
-testWritten result (answered e) = (0, filled (testWords e) result)
+-- what the export of the test returns, and the bytes shown and the result words after it: words beyond the two are unchanged
+abbrev pub testWritten : List ℕ → List ℕ → Answered Tested → ℕ × List ℕ × List ℕ
+testWritten shown result (refused r) = (refusalNumber r, shown, result)
+testWritten shown result (answered e) = (0, shownBy e, filled (testWords e) result)
 
--- the export of the test; 2: fewer than two result words
-unfoldable pub testExport : List ℕ → ℕ → ℕ → ℕ → List ℕ → ℕ × List ℕ
-testExport sheet mask values limit result = elim (ltb (length result) 2) [ true ↦ (2, result) | false ↦ testWritten result (testCall sheet mask values limit) ]
+-- the export of the test, to which all bytes are lent that it shows; 2: fewer than two result words
+unfoldable pub testExport : List ℕ → ℕ → ℕ → ℕ → List ℕ → List ℕ → ℕ × List ℕ × List ℕ
+testExport sheet mask values limit shown result =
+    elim (ltb (length result) 2) [
+      | true ↦ (2, shown, result)
+      | false ↦ testWritten shown result (testCall sheet mask values limit)
+    ]
 
 -- the two result words of a reduction: how it ended, and its trials
 abbrev pub reduceWords : ReducedAlone → List ℕ

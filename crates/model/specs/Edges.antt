@@ -9,7 +9,7 @@ use Rattle.model.specs.Sheet.{Plant, Read, edition1, readSheet}
 use Rattle.model.specs.Consistency.{holdsAt, literalHolds, clauseHolds, allHold}
 use Rattle.model.specs.Order.{costThenCode, orderOf, isConsistent, leadingStates, wholeSet}
 use Rattle.model.specs.Listing.{Ending, enough, all, full, Next, ended, more, listing}
-use Rattle.model.specs.Examples.{Settings, Row, _gives_, lists, strikes, call, answers, expected, plain, tail, small, both, selector, three, asP1}
+use Rattle.model.specs.Examples.{Settings, Row, _gives_, lists, shows, strikes, call, answers, expected, plain, tail, small, both, selector, three, asP1}
 
 -- the mask of the clutch alone, and of every second variable like it
 abbrev pub second : ℕ
@@ -139,6 +139,7 @@ holding offered held = record {
   k = 16;
   codes = 16;
   costs = 16;
+  values = 768;
   queue = 16;
   store = 8;
   offered = offered;
@@ -275,7 +276,7 @@ shapes =
     -- S 32, and the variable 32
     ∷ plain thirtyTwoStates 2 1 0 [] 1000 gives lists all (0 ∷ []) (0 ∷ []) [] 1 0 0 32
     -- a state variable of sixteen values
-    ∷ plain stateOfSixteen 2 1 0 [] 1000 gives lists all (0 ∷ []) (0 ∷ []) [] 1 0 0 16
+    ∷ plain stateOfSixteen 2 1 0 [] 1000 gives shows all (0 ∷ []) (0 ∷ []) ((0 ∷ 15 ∷ []) ∷ []) [] 1 0 0 16
     -- a clause of fifteen literals
     ∷ plain fifteenLiterals 2 2 1 [] 1000 gives lists all (0 ∷ 0x1000000000000000 ∷ []) (0 ∷ 1 ∷ []) [] 2 0 0 0
     -- k 4,096, with a queue and a store of 8,192 words, and a decision variable of sixteen values

@@ -4,7 +4,7 @@ use mathlib.Core.Bool.{Bool, true, false}
 use mathlib.Core.List.{List, [], _∷_, _++_, map}
 use Prim.Native.Nat.{ℕ, _*_, _-_, _/_}
 use lib.ListN.{length, replicate}
-use Rattle.model.specs.Lists.{place, placeAll}
+use Rattle.model.specs.Lists.{inTurn, place, placeAll}
 use Rattle.model.specs.Digits.{number, digits}
 use Rattle.model.specs.Sheet.{bitAt, bitsAt, then, many, field, edition1, decisionsAllowed, readDecision, readState, readLiteral, readClause, readFiller, readEnd, readBody, readSheet}
 use Rattle.model.specs.Assignment.{assignmentOf, maskFits, valuesFit, wellFormed}
@@ -12,7 +12,7 @@ use Rattle.model.specs.Consistency.{holdsAt, literalFails, clauseFalse, 
 use Rattle.model.specs.Conflict.{reduceFrom, reduce}
 use Rattle.model.specs.Order.{costThenCode, orderOf}
 use Rattle.model.specs.Listing.{Ending, enough, all, full, checkOffers, putChildren, learn, judge, expand, remove, step, run, start, enoughSteps, listing}
-use Rattle.model.specs.Calls.{Refusal, byAuthor, firstGiven, refused, answered, Buffers, Counts, ran, Called, hostGrounds, offersOf, entryWords, buffersAfter, calledOf, runOf, listingWith, listingCall}
+use Rattle.model.specs.Calls.{Refusal, byAuthor, firstGiven, refused, answered, Buffers, Counts, ran, Called, hostGrounds, offersOf, stateBytes, valueBytes, entryWords, buffersAfter, calledOf, runOf, listingWith, listingCall}
 
 -- the settings of a listing: the lengths of the lent buffers in words, the words offered at the store's start, and the numbers
 pub record Settings : Type 0 where
@@ -20,6 +20,7 @@ pub record Settings : Type 0 where
   pub k : ℕ
   pub codes : ℕ
   pub costs : ℕ
+  pub values : ℕ
   pub queue : ℕ
   pub store : ℕ
   pub offered : List ℕ
@@ -27,10 +28,12 @@ pub record Settings : Type 0 where
   pub limit : ℕ
 
 -- what a call is to answer: a refusal, which says whose; or a run by its ending, the codes and costs listed, the words of the
--- conflicts stored after it, tested, learned, unkept, trials; `strikes`: 'spent' inside a reduction
+-- conflicts stored after it, tested, learned, unkept, trials; `strikes`: 'spent' inside a reduction; both show every hidden
+-- variable at 0, and `shows` says the values of all variables of each state listed, after the costs
 pub data Wanted : Type 0 where
   refusal : Refusal → Wanted
   lists : Ending → List ℕ → List ℕ → List ℕ → ℕ → ℕ → ℕ → ℕ → Wanted
+  shows : Ending → List ℕ → List ℕ → List (List ℕ) → List ℕ → ℕ → ℕ → ℕ → ℕ → Wanted
   strikes : List ℕ → List ℕ → List ℕ → ℕ → ℕ → ℕ → ℕ → Wanted
 
 -- a row of a table
@@ -48,6 +51,7 @@ unfoldable pub lent : Settings → Buffers
 lent s = record {
   codes = replicate (s .codes) 7;
   costs = replicate (s .costs) 7;
+  values = replicate (s .values) 7;
   queue = replicate (s .queue) 7;
   store = s .offered ++ replicate (s .store - length (s .offered)) 7;
 }
@@ -58,16 +62,25 @@ unfolding lent
     number digits bitAt bitsAt then many field edition1 decisionsAllowed readDecision readState readLiteral readClause readFiller readEnd readBody readSheet
     assignmentOf maskFits valuesFit wellFormed holdsAt literalFails clauseFalse anyFalse orElse tryValues explore test reduceFrom reduce costThenCode orderOf
     checkOffers place placeAll putChildren learn judge expand remove step run start enoughSteps listing
-    firstGiven hostGrounds offersOf entryWords buffersAfter calledOf runOf listingWith listingCall
+    firstGiven hostGrounds offersOf valueBytes entryWords buffersAfter calledOf runOf listingWith listingCall
 call s = listingCall (s .sheet) (s .k) (lent s) (s .held) (s .limit)
 
--- a run's answer with every lent word after it: codes and costs beyond those listed are as lent, the queue is zero, and so is the store behind the conflicts
-unfoldable pub ranWith : Settings → Ending → List ℕ → List ℕ → List ℕ → Counts → Bool → Called
-ranWith s e codes costs conflicts counts struck = record {
+-- the values' bytes of a state with this code whose hidden variables are 0: the digits of the code, and zeros
+unfoldable pub hiddenZero : ℕ → List ℕ
+hiddenZero c = digits 16 16 c ++ replicate 32 0
+
+-- these values of all variables, and zeros up to 48 bytes
+unfoldable pub padded : List ℕ → List ℕ
+padded f = f ++ replicate (48 - length f) 0
+
+-- a run's answer with every lent word after it: codes, costs and values beyond those listed are as lent, the queue is zero, and so is the store behind the conflicts
+unfoldable pub ranWith : Settings → Ending → List ℕ → List ℕ → List ℕ → List ℕ → Counts → Bool → Called
+ranWith s e codes costs values conflicts counts struck = record {
   answer = answered (ran e counts);
   after = record {
     codes = codes ++ replicate (s .codes - length codes) 7;
     costs = costs ++ replicate (s .costs - length costs) 7;
+    values = values ++ replicate (s .values - length values) 7;
     queue = replicate (s .queue) 0;
     store = conflicts ++ replicate (s .store - length conflicts) 0;
   };
@@ -79,10 +92,11 @@ countsFor codes tested learned unkept trials = record { listed = length codes; t
 
 -- the whole of a wanted answer; after a refusal every lent word is as it was
 unfoldable pub whole : Settings → Wanted → Called
-unfolding ranWith
+unfolding ranWith hiddenZero padded
 whole s (refusal r) = record { answer = refused r; after = lent s; struck = false }
-whole s (lists e codes costs conflicts tested learned unkept trials) = ranWith s e codes costs conflicts (countsFor codes tested learned unkept trials) false
-whole s (strikes codes costs conflicts tested learned unkept trials) = ranWith s Ending.spent codes costs conflicts (countsFor codes tested learned unkept trials) true
+whole s (lists e codes costs conflicts tested learned unkept trials) = ranWith s e codes costs (inTurn hiddenZero codes) conflicts (countsFor codes tested learned unkept trials) false
+whole s (shows e codes costs values conflicts tested learned unkept trials) = ranWith s e codes costs (inTurn padded values) conflicts (countsFor codes tested learned unkept trials) false
+whole s (strikes codes costs conflicts tested learned unkept trials) = ranWith s Ending.spent codes costs (inTurn hiddenZero codes) conflicts (countsFor codes tested learned unkept trials) true
 
 -- what the calls of a table's rows answer and leave in the lent buffers, and what they are to
 unfoldable pub answers : List Row → List Called
@@ -90,16 +104,17 @@ unfolding call
 answers rows = map (λ r. call (r .given)) rows
 
 unfoldable pub expected : List Row → List Called
-unfolding whole lent ranWith
+unfolding whole lent ranWith hiddenZero padded digits
 expected rows = map (λ r. whole (r .given) (r .wanted)) rows
 
--- a queue and a store of so many entries, with all offered words held, and codes and costs of k words
+-- a queue and a store of so many entries, with all offered words held, codes and costs of k words, and values of k states
 unfoldable pub plain : List ℕ → ℕ → ℕ → ℕ → List ℕ → ℕ → Settings
 plain sheet k entries places offered limit = record {
   sheet = sheet;
   k = k;
   codes = k;
   costs = k;
+  values = stateBytes * k;
   queue = 2 * entries;
   store = 2 * places;
   offered = offered;

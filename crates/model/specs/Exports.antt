@@ -5,9 +5,11 @@ use Prim.Native.Nat.{ℕ}
 use lib.ListN.{replicate}
 use Rattle.model.specs.Conflict.{reduceAlone}
 use Rattle.model.specs.Listing.{enough, all, full}
-use Rattle.model.specs.Calls.{byHost, byAuthor, Called, wordGrounds, onWords, testCall, reduceCall, Exported, exportedOf, exportCall, testExport, reduceExport}
+use Rattle.model.specs.Calls.{byHost, byAuthor, Called, shownBy, wordGrounds, onWords, testCall, reduceCall, Exported, exportedOf, exportCall, testExport, reduceExport}
 use Rattle.model.specs.Examples.{Settings, Row, _gives_, refusal, lists, strikes, call, lent, ranWith, whole, plain, tail, small, emptyClause, both, selector, three, asP1}
-use Rattle.model.specs.Refusals.{edition2, lengths}
+use Rattle.model.specs.Edges.{second}
+use Rattle.model.specs.Alone.{mixed}
+use Rattle.model.specs.Refusals.{edition2, lengths, valuesOf}
 
 -- ---- the listing
 
@@ -60,35 +62,49 @@ exports =
     -- it comes after k, and before the queue and the sheet
     ∷ exporting (lengths small 0 16 16 8 8 0 gives refusal (byHost 1)) (nines 5) 1 (nines 5)
     ∷ exporting (lengths edition2 16 16 16 7 7 0 gives refusal (byHost 2)) (nines 5) 2 (nines 5)
+    -- also before the values
+    ∷ exporting (valuesOf 767 (lengths small 16 16 16 8 8 0) gives refusal (byHost 2)) (nines 5) 2 (nines 5)
     -- the host's other refusals and the author's, with words enough: nothing is written
     ∷ exporting (lengths small 16 15 16 8 8 0 gives refusal (byHost 2)) (nines 6) 2 (nines 6)
+    ∷ exporting (valuesOf 767 (lengths small 16 16 16 7 8 0) gives refusal (byHost 19)) (nines 6) 19 (nines 6)
     ∷ exporting (lengths small 16 16 16 7 8 0 gives refusal (byHost 3)) (nines 6) 3 (nines 6)
     ∷ exporting (lengths small 16 16 16 8 7 0 gives refusal (byHost 4)) (nines 6) 4 (nines 6)
     ∷ exporting (plain edition2 16 8 4 [] 1000 gives refusal (byAuthor 6)) (nines 7) 6 (nines 7)
     ∷ []
 
 pub exports-are : exported exports ≡ exportWanted exports
-unfolding exports exported exportWanted exportOf plain lengths tail small edition2 three asP1
+unfolding exports exported exportWanted exportOf plain lengths valuesOf tail small edition2 three asP1
 exports-are = refl
 
 -- ---- the test and the reduction
 
-unfoldable pub testExports : List (ℕ × List ℕ)
+unfoldable pub testExports : List (ℕ × List ℕ × List ℕ)
 unfolding call
 testExports =
     -- each answer, the first with a word behind the two
-    testExport small selector 0x1000000000000000 1000 (7 ∷ 8 ∷ 9 ∷ [])
-    ∷ testExport small both 0 1000 (7 ∷ 8 ∷ [])
-    ∷ testExport small both 0 1 (7 ∷ 8 ∷ [])
-    -- too short a buffer, which comes before the sheet
-    ∷ testExport edition2 0 0 1000 (7 ∷ [])
+    testExport small selector 0x1000000000000000 1000 (nines 48) (7 ∷ 8 ∷ 9 ∷ [])
+    ∷ testExport mixed second 0x0200000000000000 1000 (nines 48) (7 ∷ 8 ∷ [])
+    ∷ testExport small both 0 1000 (nines 48) (7 ∷ 8 ∷ [])
+    ∷ testExport small both 0 1 (nines 48) (7 ∷ 8 ∷ [])
+    -- too short a buffer: nothing is shown, also where the test is consistent, and it comes before the sheet
+    ∷ testExport small selector 0x1000000000000000 1000 (nines 48) (7 ∷ [])
+    ∷ testExport edition2 0 0 1000 (nines 48) (7 ∷ [])
     -- the host's refusal and the author's
-    ∷ testExport small 0x2000000000000000 1 1000 (7 ∷ 8 ∷ [])
-    ∷ testExport edition2 0 0 1000 (7 ∷ 8 ∷ [])
+    ∷ testExport small 0x2000000000000000 1 1000 (nines 48) (7 ∷ 8 ∷ [])
+    ∷ testExport edition2 0 0 1000 (nines 48) (7 ∷ 8 ∷ [])
     ∷ []
 
-pub testExports-are : testExports ≡ (0, 1 ∷ 2 ∷ 9 ∷ []) ∷ (0, 2 ∷ 2 ∷ []) ∷ (0, 3 ∷ 1 ∷ []) ∷ (2, 7 ∷ []) ∷ (14, 7 ∷ 8 ∷ []) ∷ (6, 7 ∷ 8 ∷ []) ∷ []
-unfolding testExports call tail small edition2 testCall onWords wordGrounds testExport
+pub testExports-are : testExports ≡
+    (0, 1 ∷ replicate 47 0, 1 ∷ 2 ∷ 9 ∷ [])
+    ∷ (0, 1 ∷ 2 ∷ 2 ∷ replicate 45 0, 1 ∷ 13 ∷ [])
+    ∷ (0, replicate 48 0, 2 ∷ 2 ∷ [])
+    ∷ (0, replicate 48 0, 3 ∷ 1 ∷ [])
+    ∷ (2, nines 48, 7 ∷ [])
+    ∷ (2, nines 48, 7 ∷ [])
+    ∷ (14, nines 48, 7 ∷ 8 ∷ [])
+    ∷ (6, nines 48, 7 ∷ 8 ∷ [])
+    ∷ []
+unfolding testExports call tail small mixed edition2 testCall onWords wordGrounds shownBy testExport
 testExports-are = refl
 
 unfoldable pub reduceExports : List (ℕ × List ℕ × List ℕ)

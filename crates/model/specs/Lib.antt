@@ -14,6 +14,7 @@ pub mod Examples
 pub mod Edges
 pub mod Refusals
 pub mod Alone
+pub mod Shown
 pub mod Exports
 pub mod Parts
 pub mod TableExamples

@@ -21,6 +21,8 @@ pub record State : Type 0 where
   pub store : List Assignment
   -- the states listed, in the order of listing
   pub listed : List (List ℕ)
+  -- the value of every variable, for each of them, as its test found them
+  pub shown : List (List ℕ)
   pub tested : ℕ
   pub learned : ℕ
   pub unkept : ℕ
@@ -123,6 +125,7 @@ queued s queue = record {
   queue = queue;
   store = s .store;
   listed = s .listed;
+  shown = s .shown;
   tested = s .tested;
   learned = s .learned;
   unkept = s .unkept;
@@ -130,12 +133,13 @@ queued s queue = record {
   struck = s .struck;
 }
 
--- the test was consistent: the state is listed
-abbrev pub listedOne : State → List Assignment → List ℕ → ℕ → State
-listedOne s rest f t = record {
+-- the test was consistent: the state f is listed, with the values g of all variables that the test found
+abbrev pub listedOne : State → List Assignment → List ℕ → List ℕ → ℕ → State
+listedOne s rest f g t = record {
   queue = rest;
   store = s .store;
   listed = s .listed ++ (f ∷ []);
+  shown = s .shown ++ (g ∷ []);
   tested = s .tested + 1;
   learned = s .learned;
   unkept = s .unkept;
@@ -149,6 +153,7 @@ unkeptOne s rest t = record {
   queue = rest;
   store = s .store;
   listed = s .listed;
+  shown = s .shown;
   tested = s .tested + 1;
   learned = s .learned;
   unkept = s .unkept + 1;
@@ -162,6 +167,7 @@ learnedOne s rest c t = record {
   queue = leaveOff (c ∷ []) rest;
   store = stored (s .store) c;
   listed = s .listed;
+  shown = s .shown;
   tested = s .tested + 1;
   learned = s .learned + 1;
   unkept = s .unkept;
@@ -175,6 +181,7 @@ spentInTest s t = record {
   queue = s .queue;
   store = s .store;
   listed = s .listed;
+  shown = s .shown;
   tested = s .tested;
   learned = s .learned;
   unkept = s .unkept;
@@ -188,6 +195,7 @@ spentInReduction s t = record {
   queue = s .queue;
   store = s .store;
   listed = s .listed;
+  shown = s .shown;
   tested = s .tested + 1;
   learned = s .learned;
   unkept = s .unkept;
@@ -228,7 +236,7 @@ module _ (p : Plant) (o : Order) (k entries places limit : ℕ) where
       elim (ltb (s .tested) mostTested) [
         | false ↦ ended Ending.spent s
         | true ↦ elim (test p limit n (s .trials)) [
-          | consistent f t ↦ more (listedOne s rest (valueList n) t)
+          | consistent g t ↦ more (listedOne s rest (valueList n) g t)
           | inconsistent t ↦ learn s rest n t
           | Tested.spent t ↦ ended Ending.spent (spentInTest s t)
         ]
@@ -279,6 +287,7 @@ start domains survivors used = record {
   queue = unassigned domains ∷ [];
   store = survivors;
   listed = [];
+  shown = [];
   tested = 0;
   learned = 0;
   unkept = 0;

@@ -112,7 +112,7 @@ unfolding wholeSet leadingStates place placeAll isConsistent allHold clauseHolds
 crossed-whole = refl
 
 -- a run's list: the codes with their costs, as many as listed says
-pub run-list : runList 2 (record { codes = 1 ∷ 2 ∷ 3 ∷ []; costs = 4 ∷ 5 ∷ 6 ∷ []; queue = []; store = [] }) ≡
+pub run-list : runList 2 (record { codes = 1 ∷ 2 ∷ 3 ∷ []; costs = 4 ∷ 5 ∷ 6 ∷ []; values = []; queue = []; store = [] }) ≡
     record { code = 1; figure = 4 } ∷ record { code = 2; figure = 5 } ∷ []
 run-list = refl
 

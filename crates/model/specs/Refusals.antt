@@ -1,10 +1,10 @@
 -- Rows for refusals: each ground of its own, whose it is, which comes first, and that every lent word is as it was. Assumes nothing.
 use mathlib.Core.Path.{_≡_, refl}
 use mathlib.Core.List.{List, [], _∷_, _++_, map}
-use Prim.Native.Nat.{ℕ}
+use Prim.Native.Nat.{ℕ, _*_}
 use lib.ListN.{take}
 use Rattle.model.specs.Lists.{valuesFrom}
-use Rattle.model.specs.Calls.{byHost, byAuthor}
+use Rattle.model.specs.Calls.{byHost, byAuthor, stateBytes}
 use Rattle.model.specs.Examples.{Settings, Row, _gives_, refusal, answers, expected, plain, tail, small, damaged, seventeen, three, asP1}
 
 -- ---- sheets
@@ -43,11 +43,27 @@ lengths sheet k codes costs queue store held = record {
   k = k;
   codes = codes;
   costs = costs;
+  values = stateBytes * k;
   queue = queue;
   store = store;
   offered = [];
   held = held;
   limit = 1000;
+}
+
+-- the same call with so many bytes of values
+unfoldable pub valuesOf : ℕ → Settings → Settings
+valuesOf n s = record {
+  sheet = s .sheet;
+  k = s .k;
+  codes = s .codes;
+  costs = s .costs;
+  values = n;
+  queue = s .queue;
+  store = s .store;
+  offered = s .offered;
+  held = s .held;
+  limit = s .limit;
 }
 
 unfoldable pub hosts : List Row
@@ -58,6 +74,11 @@ hosts =
     -- codes shorter than k, and costs
     ∷ lengths small 16 15 16 8 8 0 gives refusal (byHost 2)
     ∷ lengths small 16 16 15 8 8 0 gives refusal (byHost 2)
+    -- the values a byte shorter than 48 times k, of one state, of sixteen and of the most, and none at all
+    ∷ valuesOf 47 (lengths small 1 1 1 8 8 0) gives refusal (byHost 19)
+    ∷ valuesOf 767 (lengths small 16 16 16 8 8 0) gives refusal (byHost 19)
+    ∷ valuesOf 196607 (lengths small 4096 4096 4096 8 8 0) gives refusal (byHost 19)
+    ∷ valuesOf 0 (lengths small 1 1 1 8 8 0) gives refusal (byHost 19)
     -- the queue odd, below 2 and above 8,192 words
     ∷ lengths small 16 16 16 7 8 0 gives refusal (byHost 3)
     ∷ lengths small 16 16 16 0 8 0 gives refusal (byHost 3)
@@ -70,18 +91,19 @@ hosts =
     ∷ []
 
 pub hosts-are : answers hosts ≡ expected hosts
-unfolding hosts answers expected lengths tail small
+unfolding hosts answers expected lengths valuesOf tail small
 hosts-are = refl
 
--- what is just allowed: codes and costs longer than k, held half of the store (entries of sevens are dropped)
+-- what is just allowed: codes and costs longer than k, values longer than 48 times k, held half of the store (entries of sevens are dropped)
 unfoldable pub allowed : List Row
 allowed =
     lengths small 4 5 6 6 4 0 gives asP1
+    ∷ valuesOf 193 (lengths small 4 4 4 6 4 0) gives asP1
     ∷ lengths small 4 4 4 6 4 2 gives asP1
     ∷ []
 
 pub allowed-are : answers allowed ≡ expected allowed
-unfolding allowed answers expected lengths tail small three asP1
+unfolding allowed answers expected lengths valuesOf tail small three asP1
 allowed-are = refl
 
 -- ---- the author's, in reading order
@@ -127,12 +149,17 @@ cuts-are = refl
 
 unfoldable pub doubles : List Row
 doubles =
-    -- k and codes; codes and queue; queue and store; store and the sheet
+    -- k and codes; codes and queue; queue and store; store and the sheet; of the values with k, with codes, with the queue and with the sheet
     lengths small 0 0 0 7 7 9 gives refusal (byHost 1)
     ∷ lengths small 4097 16 17 8 8 0 gives refusal (byHost 1)
     ∷ lengths small 17 16 17 7 7 9 gives refusal (byHost 2)
     ∷ lengths small 16 16 16 7 7 9 gives refusal (byHost 3)
     ∷ lengths edition2 16 16 16 8 7 0 gives refusal (byHost 4)
+    ∷ valuesOf 0 (lengths small 0 0 0 8 8 0) gives refusal (byHost 1)
+    ∷ valuesOf 196655 (lengths small 4097 4097 4097 8 8 0) gives refusal (byHost 1)
+    ∷ valuesOf 767 (lengths small 16 15 16 8 8 0) gives refusal (byHost 2)
+    ∷ valuesOf 767 (lengths small 16 16 16 7 7 9) gives refusal (byHost 19)
+    ∷ valuesOf 767 (lengths edition2 16 16 16 8 8 0) gives refusal (byHost 19)
     -- edition and D; D and S; S and C
     ∷ plain edition2And17 16 8 4 [] 1000 gives refusal (byAuthor 6)
     ∷ plain (0x01 ∷ 0x8c ∷ 0x20 ∷ 0x08 ∷ []) 16 8 4 [] 1000 gives refusal (byAuthor 7)
@@ -151,5 +178,5 @@ doubles =
     ∷ []
 
 pub doubles-are : answers doubles ≡ expected doubles
-unfolding doubles answers expected plain lengths tail small edition2 edition2And17 absentAtTheEnd damaged
+unfolding doubles answers expected plain lengths valuesOf tail small edition2 edition2And17 absentAtTheEnd damaged
 doubles-are = refl

@@ -1,7 +1,7 @@
 -- Specification, "Program": the text that the program `leading` prints for a sheet, as bytes. Assumes nothing: these are definitions.
 use mathlib.Core.Bool.{true, false}
 use mathlib.Core.List.{List, [], _∷_, _++_, map}
-use Prim.Native.Nat.{ℕ, _+_}
+use Prim.Native.Nat.{ℕ, _+_, _*_}
 use Prim.Native.Char.{code as codePoint}
 use Prim.Native.String.{String, [] as nothing, _∷_ as _⊳_}
 use lib.Dec.{ltb, eqb}
@@ -9,7 +9,7 @@ use lib.ListN.{replicate}
 use Rattle.model.specs.Digits.{digits}
 use Rattle.model.specs.Order.{Entry}
 use Rattle.model.specs.Listing.{Ending, enough, all, full}
-use Rattle.model.specs.Calls.{refusalNumber, Answer, refused, answered, Buffers, Counts, ran, unfinished, Called, runList, listingCall}
+use Rattle.model.specs.Calls.{refusalNumber, Answer, refused, answered, Buffers, Counts, ran, unfinished, Called, stateBytes, runList, listingCall}
 
 -- ---- words and numbers
 
@@ -114,6 +114,7 @@ unfoldable pub programBuffers : Buffers
 programBuffers = record {
   codes = replicate wantedStates 0;
   costs = replicate wantedStates 0;
+  values = replicate (stateBytes * wantedStates) 0;
   queue = replicate queueWords 0;
   store = replicate storeWords 0;
 }

@@ -31,11 +31,11 @@ pub texts-are : texts ≡
 unfolding texts tail small emptyClause seventeen twenty
 texts-are = refl
 
--- k 16, a queue of 4,096 entries, a store of 64, and the limit
+-- k 16, values of as many states, a queue of 4,096 entries, a store of 64, and the limit
 unfoldable pub settings : List ℕ
-settings = wantedStates ∷ length (programBuffers .codes) ∷ length (programBuffers .costs) ∷ length (programBuffers .queue) / 2 ∷ length (programBuffers .store) / 2 ∷ trialLimit ∷ []
+settings = wantedStates ∷ length (programBuffers .codes) ∷ length (programBuffers .costs) ∷ length (programBuffers .values) ∷ length (programBuffers .queue) / 2 ∷ length (programBuffers .store) / 2 ∷ trialLimit ∷ []
 
-pub settings-are : settings ≡ 16 ∷ 16 ∷ 16 ∷ 4096 ∷ 64 ∷ 1000000 ∷ []
+pub settings-are : settings ≡ 16 ∷ 16 ∷ 16 ∷ 768 ∷ 4096 ∷ 64 ∷ 1000000 ∷ []
 unfolding settings programBuffers
 settings-are = refl
 

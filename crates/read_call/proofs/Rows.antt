@@ -1,4 +1,4 @@
--- What is put at the front of a lent table fills its first places; costs put row by row, without gaps: start, step and end of the loop. Assumes nothing.
+-- Costs put row by row, without gaps: start, step and end of the loop. Assumes nothing.
 use mathlib.Core.Path.{_≡_, refl, sym, _∙_}
 use mathlib.Core.List.{List, _++_}
 use Prim.Native.Nat.{ℕ, _+_, _-_, _*_, _≤_, _<_}
@@ -8,14 +8,10 @@ use lib.ListN.{length, getD, take, drop, length-drop, drop-of-length-le}
 use lib.Seq.{drop-cons, drop-drop, take-take, length-take-le, getD-take}
 use Rattle.model.specs.Lists.{All, inTurn, filled}
 use Rattle.theory.specs.Plant.{Sized}
-use Rattle.theory.specs.Puts.{written, Puts}
+use Rattle.theory.specs.Puts.{Puts}
 use Rattle.theory.specs.Tables.{rows}
 use Rattle.theory.proofs.Lists.{all-at}
-use Rattle.theory.proofs.Puts.{PutsBefore, part-start, part-step, part-end}
-
-pub front : {text before after : List ℕ} {next : ℕ} → Puts 0 text before next after → after ≡ filled text before
-unfolding written
-front {text} p = let e : 0 + length text ≡ length text = omega arith in p .buffer ∙ rw e
+use Rattle.theory.proofs.Puts.{puts-front, PutsBefore, part-start, part-step, part-end}
 
 -- the costs of the decision variables from v on, without gaps
 abbrev pub costsFrom : (sizes costs : List ℕ) (v : ℕ) → List ℕ
@@ -74,4 +70,4 @@ module _ (sizes costs before : List ℕ) (d : ℕ) where
 
   pub rows-end : (v next : ℕ) (out : List ℕ) → d ≤ length sizes → d ≤ v → RowsTo sizes costs before d v next out → out ≡ filled (inTurn (λ row. row) (rows (take d sizes) costs)) before
   unfolding rows
-  rows-end v next out few l s = front (part-end (rw (drop-of-length-le (take d sizes) {i = v} (omega (arith, length-take-le d sizes few)))) (s .put))
+  rows-end v next out few l s = puts-front (part-end (rw (drop-of-length-le (take d sizes) {i = v} (omega (arith, length-take-le d sizes few)))) (s .put))

@@ -9,6 +9,7 @@ use printing::print_hex8;
 use printing::print_number;
 use std::num::wrapping_add_u64;
 use vectors::CHECKSUM_START;
+use vectors::mixed_all;
 use vectors::mixed_all_u32;
 use vectors::mixed_all_u64;
 use vectors::read_block;
@@ -18,7 +19,10 @@ use vectors::read_u64;
 ghost use mathlib.Core.Path.{_≡_};
 ghost use Prim.Native.Nat.{_≤_};
 ghost use lib.ListN.{length};
-ghost use Rattle.vectors.specs.Bytes.{checksumStart, over, mix32, mix64};
+ghost use Rattle.vectors.specs.Bytes.{checksumStart, over, mix, mix32, mix64};
+
+// Bytes of values that a case may have: those of the most states, and some more.
+const VALUES_ROOM: usize = 196_700;
 
 // Makes every word junk plus its own place.
 fn fill(words: &mut [u64], junk: u64) {
@@ -43,12 +47,13 @@ fn read_words(words: &mut [u64], n: usize)
 }
 
 // The checksum of every lent word.
-fn checksum(codes: &[u64], costs: &[u32], queue: &[u64], store: &[u64]) -> u32
-    ensures { λ r. ⌜ r ≡ over mix64 (over mix64 (over mix32 (over mix64 checksumStart (now (codes .entry))) (now (costs .entry))) (now (queue .entry))) (now (store .entry)) ⌝ }
+fn checksum(codes: &[u64], costs: &[u32], values: &[u8], queue: &[u64], store: &[u64]) -> u32
+    ensures { λ r. ⌜ r ≡ over mix64 (over mix64 (over mix (over mix32 (over mix64 checksumStart (now (codes .entry))) (now (costs .entry))) (now (values .entry))) (now (queue .entry))) (now (store .entry)) ⌝ }
 {
     let coded = mixed_all_u64(CHECKSUM_START, codes);
     let priced = mixed_all_u32(coded, costs);
-    let queued = mixed_all_u64(priced, queue);
+    let shown = mixed_all(priced, values);
+    let queued = mixed_all_u64(shown, queue);
     mixed_all_u64(queued, store)
 }
 
@@ -67,25 +72,35 @@ fn answer(
     k: u32,
     codes: &mut [u64],
     costs: &mut [u32],
+    values: &mut [u8],
     queue: &mut [u64],
     store: &mut [u64],
     held: usize,
     limit: u32,
 ) {
-    match listing_call::list(sheet, k, codes, costs, queue, store, held, limit) {
+    match listing_call::list(sheet, k, codes, costs, values, queue, store, held, limit) {
         Answer::Refused(r) => print_refusal(r, b' '),
         Answer::Ran(e, c) => {
             print_ending(e);
             print_counts(c);
         }
     }
-    print_hex8(checksum(codes, costs, queue, store), b'\n');
+    print_hex8(checksum(codes, costs, values, queue, store), b'\n');
+}
+
+// So many bytes of values as there is room for.
+fn at_most_room(n: u32) -> usize
+    ensures { λ r. ⌜ r ≤ 196700 ⌝ }
+{
+    let len = n as usize;
+    if len < VALUES_ROOM { len } else { VALUES_ROOM }
 }
 
 // Reads the rest of a case, from the lengths of its buffers on, and answers it.
 fn replay_on(sheet: &[u8], k: u32) {
     let codes_len = read_u16();
     let costs_len = read_u16();
+    let values_len = at_most_room(read_u32());
     let queue_len = read_u16();
     let store_len = read_u16();
     let held = read_u16();
@@ -93,6 +108,7 @@ fn replay_on(sheet: &[u8], k: u32) {
     let given = read_u16();
     let mut codes = [0u64; 65536];
     let mut costs = [0x2222_2222u32; 65536];
+    let mut values = [0x55u8; VALUES_ROOM];
     let mut queue = [0u64; 65536];
     let mut store = [0u64; 65536];
     fill(&mut codes, 0x1111_1111_1111_1111);
@@ -104,6 +120,7 @@ fn replay_on(sheet: &[u8], k: u32) {
         k,
         &mut codes[..codes_len],
         &mut costs[..costs_len],
+        &mut values[..values_len],
         &mut queue[..queue_len],
         &mut store[..store_len],
         held,

@@ -42,11 +42,11 @@ step-expand : (p : Plant) (o : Order) {k wanted entries others : ℕ} (places li
 unfolding step remove
 step-expand p o {k} {entries = entries} places limit s n rest a b e f = rw (step, ap (remove p o k entries places limit s) f, remove, e, a, b) refl
 
-module _ {d : ℕ} {sizes prices counts lits sat uses plan : List ℕ} {preferred k limit : ℕ} {codes costs queue store : List ℕ} {g : Progress}
-    (t : Steps d sizes prices counts lits sat uses plan preferred k limit codes costs queue store g) where
+module _ {d : ℕ} {sizes prices counts lits sat uses plan : List ℕ} {preferred k limit : ℕ} {codes costs values queue store : List ℕ} {g : Progress}
+    (t : Steps d sizes prices counts lits sat uses plan preferred k limit codes costs values queue store g) where
   -- the queue has no nodes
   pub step-all : g .queued ≡ 0
-      → NextIs (t .question) queue store codes costs (After.Ended Ending.All g) (step (t .question .plant) (orderOf (t .question .plant)) k (length queue / 2) (length store / 2) limit (t .state))
+      → NextIs (t .question) queue store codes costs values (After.Ended Ending.All g) (step (t .question .plant) (orderOf (t .question .plant)) k (length queue / 2) (length store / 2) limit (t .state))
   unfolding step remove
   step-all h =
       let p = t .question .plant in
@@ -60,7 +60,7 @@ module _ {d : ℕ} {sizes prices counts lits sat uses plan : List ℕ} {preferre
 
     -- as many states are listed as are wanted
     pub step-enough : k ≤ g .listed
-        → NextIs (t .question) queue store codes costs (After.Ended Ending.Enough g) (step (t .question .plant) (orderOf (t .question .plant)) k (length queue / 2) (length store / 2) limit (t .state))
+        → NextIs (t .question) queue store codes costs values (After.Ended Ending.Enough g) (step (t .question .plant) (orderOf (t .question .plant)) k (length queue / 2) (length store / 2) limit (t .state))
     unfolding step remove
     step-enough h =
         let p = t .question .plant in
@@ -86,7 +86,7 @@ module _ {d : ℕ} {sizes prices counts lits sat uses plan : List ℕ} {preferre
         taken-out = popped (orderOf (t .question .plant)) (front .0) (front .1) (cost-keyed (t .question .plant)) (searched .ordered) (rw (front .2) at (t .turn .standing .holds))
 
         -- what the words stand for without it
-        pub left : Removed (t .question) limit after store codes costs one-less node
+        pub left : Removed (t .question) limit after store codes costs values one-less node
         left =
             let w = t .turn .standing .written in
             record {
@@ -103,13 +103,14 @@ module _ {d : ℕ} {sizes prices counts lits sat uses plan : List ℕ} {preferre
                 };
                 codes-room = t .turn .codes-room;
                 costs-room = t .turn .costs-room;
+                values-room = t .turn .values-room;
               };
               removed = front .2;
               is = read (t .question .plant) (front .0) (t .tables .tabled .accepted) (searched .valid .0) (taken-out .0);
               wanting = omega (arith, w .listed-is, t .asked);
             }
 
-        abbrev pub removes : Expands d sizes prices counts lits sat uses plan preferred limit codes costs after store one-less node
+        abbrev pub removes : Expands d sizes prices counts lits sat uses plan preferred limit codes costs values after store one-less node
         removes = record { question = t .question; tables = t .tables; taken = left }
 
         -- the rest of the step is the model's

@@ -74,23 +74,23 @@ module _ (ss : List ℕ) (o : Order) (s : Suits ss o) where
 -- ---- between two turns
 
 -- a run has come to these words: it ends as the run from the state for which they stand
-pub record Reached (q : Question) (k limit : ℕ) (whole : Next) (queue store codes costs : List ℕ) (g : Progress) : Type 0 where
+pub record Reached (q : Question) (k limit : ℕ) (whole : Next) (queue store codes costs values : List ℕ) (g : Progress) : Type 0 where
   pub state : State
   pub left : ℕ
-  pub turn : Turn q limit queue store codes costs g state (state .queue)
+  pub turn : Turn q limit queue store codes costs values g state (state .queue)
   pub enough : weights (decisionSizes (q .plant)) (state .queue) < left
   pub same : whole ≡ run (q .plant) (orderOf (q .plant)) k (length queue / 2) (length store / 2) limit left state
 
-module _ {d : ℕ} {sizes prices counts lits sat uses plan : List ℕ} {preferred k limit : ℕ} {codes costs queue store : List ℕ} {g : Progress}
-    (t : Steps d sizes prices counts lits sat uses plan preferred k limit codes costs queue store g) where
+module _ {d : ℕ} {sizes prices counts lits sat uses plan : List ℕ} {preferred k limit : ℕ} {codes costs values queue store : List ℕ} {g : Progress}
+    (t : Steps d sizes prices counts lits sat uses plan preferred k limit codes costs values queue store g) where
   -- at first
   pub reached-start : (fuel : ℕ) → weights (decisionSizes (t .question .plant)) (t .state .queue) < fuel
-      → Reached (t .question) k limit (run (t .question .plant) (orderOf (t .question .plant)) k (length queue / 2) (length store / 2) limit fuel (t .state)) queue store codes costs g
+      → Reached (t .question) k limit (run (t .question .plant) (orderOf (t .question .plant)) k (length queue / 2) (length store / 2) limit fuel (t .state)) queue store codes costs values g
   reached-start fuel h = record { state = t .state; left = fuel; turn = t .turn; enough = h; same = refl }
 
   -- a turn may begin
-  abbrev pub reached-steps : {whole : Next} {plan′ codes′ costs′ queue′ store′ : List ℕ} {g′ : Progress} → length plan′ ≡ planWords
-      → Reached (t .question) k limit whole queue′ store′ codes′ costs′ g′ → Steps d sizes prices counts lits sat uses plan′ preferred k limit codes′ costs′ queue′ store′ g′
+  abbrev pub reached-steps : {whole : Next} {plan′ codes′ costs′ values′ queue′ store′ : List ℕ} {g′ : Progress} → length plan′ ≡ planWords
+      → Reached (t .question) k limit whole queue′ store′ codes′ costs′ values′ g′ → Steps d sizes prices counts lits sat uses plan′ preferred k limit codes′ costs′ values′ queue′ store′ g′
   reached-steps l r = record {
     question = t .question;
     state = r .state;
@@ -101,7 +101,7 @@ module _ {d : ℕ} {sizes prices counts lits sat uses plan : List ℕ} {preferre
 
 -- ---- a turn
 
-module _ {q : Question} {k limit : ℕ} {whole : Next} {queue store codes costs : List ℕ} {g : Progress} (r : Reached q k limit whole queue store codes costs g) where
+module _ {q : Question} {k limit : ℕ} {whole : Next} {queue store codes costs values : List ℕ} {g : Progress} (r : Reached q k limit whole queue store codes costs values g) where
   -- what the model's step makes of the state
   abbrev stepped : Next
   stepped = step (q .plant) (orderOf (q .plant)) k (length queue / 2) (length store / 2) limit (r .state)
@@ -116,19 +116,19 @@ module _ {q : Question} {k limit : ℕ} {whole : Next} {queue store codes costs 
       go zero l = absurd (omega arith)
       go (suc n) l = rw (run, h)
 
-  module _ (queue′ store′ codes′ costs′ : List ℕ) where
-    pub reached-end : {x : After} (ending : Ended) (last : Progress) → x ≡ After.Ended ending last → NextIs q queue′ store′ codes′ costs′ x stepped
-        → FinishedAs q store′ codes′ costs′ (record { ending = ending; progress = last }) whole
+  module _ (queue′ store′ codes′ costs′ values′ : List ℕ) where
+    pub reached-end : {x : After} (ending : Ended) (last : Progress) → x ≡ After.Ended ending last → NextIs q queue′ store′ codes′ costs′ values′ x stepped
+        → FinishedAs q store′ codes′ costs′ values′ (record { ending = ending; progress = last }) whole
     reached-end ending last f n = go stepped refl (rw f at n)
       where
-        go : (x : Next) → stepped ≡ x → NextIs q queue′ store′ codes′ costs′ (After.Ended ending last) x → FinishedAs q store′ codes′ costs′ (record { ending = ending; progress = last }) whole
+        go : (x : Next) → stepped ≡ x → NextIs q queue′ store′ codes′ costs′ values′ (After.Ended ending last) x → FinishedAs q store′ codes′ costs′ values′ (record { ending = ending; progress = last }) whole
         go (ended e s) h n = record { state = s; ends = run-ended e s h ∙ ap (λ (f : Ending). ended f s) (sym (n .0)); written = n .1 }
         go (more s) h n = absurd n
 
     -- a step after which it goes on, with a lighter queue
     pub reached-next : {d : ℕ} {sizes prices counts lits : List ℕ} {x : After} → Tabled (q .plant) d sizes prices counts lits → q .wanted ≡ k
-        → length queue′ ≡ length queue → length store′ ≡ length store → (next : Progress) → x ≡ After.More next → NextIs q queue′ store′ codes′ costs′ x stepped
-        → Reached q k limit whole queue′ store′ codes′ costs′ next × (queueWeight (take d sizes) (next .queued) queue′ < queueWeight (take d sizes) (g .queued) queue)
+        → length queue′ ≡ length queue → length store′ ≡ length store → (next : Progress) → x ≡ After.More next → NextIs q queue′ store′ codes′ costs′ values′ x stepped
+        → Reached q k limit whole queue′ store′ codes′ costs′ values′ next × (queueWeight (take d sizes) (next .queued) queue′ < queueWeight (take d sizes) (g .queued) queue)
     unfolding run
     reached-next {d} {sizes} t asked le ls next f n = go stepped refl (rw f at n) again
       where
@@ -145,8 +145,8 @@ module _ {q : Question} {k limit : ℕ} {whole : Next} {queue store codes costs 
         on s h l zero m = absurd (omega arith)
         on s h l (suc left) m = (left, omega arith, rw (run, h))
 
-        go : (x : Next) → stepped ≡ x → NextIs q queue′ store′ codes′ costs′ (After.More next) x → Stepped (q .plant) (orderOf (q .plant)) k limit (r .turn .survivors) (length queue / 2) (r .state) x
-            → Reached q k limit whole queue′ store′ codes′ costs′ next × (queueWeight (take d sizes) (next .queued) queue′ < queueWeight (take d sizes) (g .queued) queue)
+        go : (x : Next) → stepped ≡ x → NextIs q queue′ store′ codes′ costs′ values′ (After.More next) x → Stepped (q .plant) (orderOf (q .plant)) k limit (r .turn .survivors) (length queue / 2) (r .state) x
+            → Reached q k limit whole queue′ store′ codes′ costs′ values′ next × (queueWeight (take d sizes) (next .queued) queue′ < queueWeight (take d sizes) (g .queued) queue)
         go (ended e s) h n a = absurd n
         go (more s) h n a =
             let w = on s h (a .1) (r .left) (r .enough) in
@@ -161,6 +161,7 @@ module _ {q : Question} {k limit : ℕ} {whole : Next} {queue store codes costs 
                   standing = n;
                   codes-room = r .turn .codes-room;
                   costs-room = r .turn .costs-room;
+                  values-room = r .turn .values-room;
                 };
                 enough = w .1;
                 same = rw (le, ls) (r .same ∙ w .2);

@@ -9,15 +9,15 @@ use Rattle.expand.specs.Expands.{Tables}
 use Rattle.steps.specs.declared.Finished.{Finished}
 
 -- before step 3; `tables` says that the word handed in has each decision variable's cheapest value, the lowest on a tie
-pub record Steps (d : ℕ) (sizes prices counts lits sat uses plan : List ℕ) (preferred k limit : ℕ) (codes costs queue store : List ℕ) (g : Progress) : Type 0 where
+pub record Steps (d : ℕ) (sizes prices counts lits sat uses plan : List ℕ) (preferred k limit : ℕ) (codes costs values queue store : List ℕ) (g : Progress) : Type 0 where
   pub question : Question
   pub state : State
   pub asked : question .wanted ≡ k
   pub tables : Tables (question .plant) d sizes prices counts lits sat uses plan preferred
-  pub turn : Turn question limit queue store codes costs g state (state .queue)
+  pub turn : Turn question limit queue store codes costs values g state (state .queue)
 
 -- the run has ended as the model's does
-pub record FinishedAs (q : Question) (store codes costs : List ℕ) (f : Finished) (n : Next) : Type 0 where
+pub record FinishedAs (q : Question) (store codes costs values : List ℕ) (f : Finished) (n : Next) : Type 0 where
   pub state : State
   pub ends : n ≡ ended (endingOf (f .ending)) state
-  pub written : Written q store codes costs (f .progress) state
+  pub written : Written q store codes costs values (f .progress) state

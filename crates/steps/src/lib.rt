@@ -36,15 +36,16 @@ fn step(
     preferred: u64,
     codes: &mut [u64],
     costs: &mut [u32],
+    values: &mut [u8],
     queue: &mut [u64],
     store: &mut [u64],
     g: Progress,
     k: u32,
     limit: u32,
 ) -> Next
-    requires { ⌜ Steps d (now sizes) (now prices) (now counts) (now lits) (now sat) (now uses) (now plan) preferred k limit (now codes) (now costs) (now queue) (now store) g ⌝ }
-    ensures answer { λ r. ⌜ ((t : Steps d (now (sizes .entry)) (now (prices .entry)) (now (counts .entry)) (now (lits .entry)) (now (sat .entry)) (now (uses .entry)) (now (plan .entry)) preferred k limit (now (codes .entry)) (now (costs .entry)) (now (queue .entry)) (now (store .entry)) g)
-        → NextIs (t .question) (now (queue .exit)) (now (store .exit)) (now (codes .exit)) (now (costs .exit)) r
+    requires { ⌜ Steps d (now sizes) (now prices) (now counts) (now lits) (now sat) (now uses) (now plan) preferred k limit (now codes) (now costs) (now values) (now queue) (now store) g ⌝ }
+    ensures answer { λ r. ⌜ ((t : Steps d (now (sizes .entry)) (now (prices .entry)) (now (counts .entry)) (now (lits .entry)) (now (sat .entry)) (now (uses .entry)) (now (plan .entry)) preferred k limit (now (codes .entry)) (now (costs .entry)) (now (values .entry)) (now (queue .entry)) (now (store .entry)) g)
+        → NextIs (t .question) (now (queue .exit)) (now (store .exit)) (now (codes .exit)) (now (costs .exit)) (now (values .exit)) r
         (step (t .question .plant) (orderOf (t .question .plant)) k (length (now (queue .entry)) / 2) (length (now (store .entry)) / 2) limit (t .state))) ⌝ }
     ensures long { λ _. ⌜ length (now (plan .exit)) ≡ planWords ⌝ }
 {
@@ -71,6 +72,7 @@ fn step(
         preferred,
         codes,
         costs,
+        values,
         queue,
         store,
         left,
@@ -92,16 +94,17 @@ pub fn run(
     preferred: u64,
     codes: &mut [u64],
     costs: &mut [u32],
+    values: &mut [u8],
     queue: &mut [u64],
     store: &mut [u64],
     start: Progress,
     k: u32,
     limit: u32,
 ) -> Finished
-    requires { ⌜ Steps d (now sizes) (now prices) (now counts) (now lits) (now sat) (now uses) (now plan) preferred k limit (now codes) (now costs) (now queue) (now store) start ⌝ }
-    ensures { λ r. ⌜ ((t : Steps d (now (sizes .entry)) (now (prices .entry)) (now (counts .entry)) (now (lits .entry)) (now (sat .entry)) (now (uses .entry)) (now (plan .entry)) preferred k limit (now (codes .entry)) (now (costs .entry)) (now (queue .entry)) (now (store .entry)) start)
+    requires { ⌜ Steps d (now sizes) (now prices) (now counts) (now lits) (now sat) (now uses) (now plan) preferred k limit (now codes) (now costs) (now values) (now queue) (now store) start ⌝ }
+    ensures { λ r. ⌜ ((t : Steps d (now (sizes .entry)) (now (prices .entry)) (now (counts .entry)) (now (lits .entry)) (now (sat .entry)) (now (uses .entry)) (now (plan .entry)) preferred k limit (now (codes .entry)) (now (costs .entry)) (now (values .entry)) (now (queue .entry)) (now (store .entry)) start)
         (fuel : ℕ) → weights (decisionSizes (t .question .plant)) (t .state .queue) < fuel
-        → FinishedAs (t .question) (now (store .exit)) (now (codes .exit)) (now (costs .exit)) r
+        → FinishedAs (t .question) (now (store .exit)) (now (codes .exit)) (now (costs .exit)) (now (values .exit)) r
         (run (t .question .plant) (orderOf (t .question .plant)) k (length (now (queue .entry)) / 2) (length (now (store .entry)) / 2) limit fuel (t .state))) ⌝ }
 {
     let mut g = start;
@@ -118,6 +121,7 @@ pub fn run(
             preferred,
             codes,
             costs,
+            values,
             queue,
             store,
             g,

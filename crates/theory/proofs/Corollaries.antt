@@ -10,14 +10,18 @@ use native.Mathlib.Decide.{decLe}
 use lib.ListN.{length, length-append}
 use Rattle.model.specs.Lists.{Begins}
 use Rattle.model.specs.Sheet.{Plant, got, edition1, readSheet, decisionSizes}
+use Rattle.model.specs.Assignment.{full}
 use Rattle.model.specs.Order.{Entry, product, wholeSet, orderOf}
 use Rattle.model.specs.Listing.{Ending, enough, all}
 use Rattle.model.specs.Calls.{Answer, answered, Buffers, Counts, ran, firstGiven, hostGrounds, runList, countsOf, calledOf, listingWith}
 use Rattle.theory.specs.Demand3.{Demand3, PromisedBy}
+use Rattle.theory.specs.Shown.{ShownAt, ShownOn, SameValues}
 use Rattle.theory.specs.TwoRuns.{ListOn, NoContradiction}
 use Rattle.theory.proofs.Nodes.{rooms-length}
 use Rattle.theory.proofs.Run.{differ}
-use Rattle.theory.proofs.Demand3.{queue-given, sheet-at-least, call-done, promised}
+use Rattle.theory.proofs.Shown.{shows-unique}
+use Rattle.theory.proofs.Order.{code-injective}
+use Rattle.theory.proofs.Demand3.{queue-given, sheet-codes, sheet-small, sheet-at-least, call-done, promised}
 
 -- of two lists that begin a third, the shorter begins the longer
 begins-both : {A : Type 0} (xs ys zs : List A) → Begins xs zs → Begins ys zs → length xs ≤ length ys → Begins xs ys
@@ -65,6 +69,19 @@ module _ {sheet : List ℕ} where
       → ListOn sheet (c .listed) (runList (c .listed) after)
   promised-list h = record { plant = h .0; end = h .1; says = h .2; begins = h .3 .begins; long = h .3 .as-counted }
 
+  -- what is shown is a function of the sheet and the state: where two runs on one sheet list a state, they show the same values for it, whatever else differs
+  pub same-values : {m n : ℕ} {b c : Buffers} → ShownOn sheet m b → ShownOn sheet n c → SameValues m n b c
+  same-values {c = c} s t i j h k e =
+      let plants : t .plant ≡ s .plant = one-plant sheet (t .plant) (s .plant) (t .end) (s .end) (t .says) (s .says) in
+      let x = s .shown i h in
+      let y : ShownAt (s .plant) c j = rw plants at (t .shown j k) in
+      let states : y .0 ≡ x .0 = code-injective (decisionSizes (s .plant)) (y .0) (x .0) (sheet-codes sheet (s .plant) (s .end) (s .says)) (sheet-small sheet (s .plant) (s .end) (s .says)) (y .1) (x .1) (sym (y .2) ∙ sym e ∙ x .2) in
+      shows-unique (s .plant) (full (x .0)) _ _ (x .3) (rw states at (y .3))
+
+  -- what a run that keeps the promise shows
+  pub promised-values : {k limit : ℕ} {before after : Buffers} {e : Ending} {c : Counts} {struck : Bool} → PromisedBy sheet k before limit (answered (ran e c)) after struck → ShownOn sheet (c .listed) after
+  promised-values h = record { plant = h .0; end = h .1; says = h .2; shown = h .3 .shown }
+
 -- a run: a listing call on this sheet, with its answer, its counts and its list
 pub record RunOn (sheet : List ℕ) : Type 0 where
   pub k : ℕ
@@ -94,6 +111,10 @@ module _ (sheet : List ℕ) where
     -- two runs of the listing call
     pub two-runs : NoContradiction (r .counts .listed) (s .counts .listed) (listOf r) (listOf s)
     two-runs = no-contradiction (promised-list (run-promise r)) (promised-list (run-promise s))
+
+    -- where they list one state, they show the same values
+    pub two-shown : SameValues (r .counts .listed) (s .counts .listed) (afterRun r) (afterRun s)
+    two-shown = same-values (promised-values (run-promise r)) (promised-values (run-promise s))
 
     -- two runs that both end 'all' have one list
     pub all-same : r .ending ≡ all → s .ending ≡ all → listOf r ≡ listOf s

@@ -4,17 +4,17 @@ use mathlib.Core.Logic.{_⊎_, inl, inr}
 use mathlib.Core.Bool.{Bool, true, false}
 use mathlib.Core.Option.{Option, none, some}
 use mathlib.Core.List.{List, [], _∷_, map, map-append}
-use Prim.Native.Nat.{ℕ, zero, suc, _/_, _≤_, _<_}
+use Prim.Native.Nat.{ℕ, zero, suc, _*_, _/_, _≤_, _<_}
 use native.Mathlib.Omega.{arith}
 use borrow.Author.Tests.{ltb-false}
 use lib.Dec.{ltb}
 use lib.ListN.{length, getD, take, length-map}
-use Rattle.model.specs.Lists.{Some, Mem, All, Pairs, Begins, filled}
-use Rattle.model.specs.Sheet.{Plant, Read, got, edition1, readSheet, decisionSizes}
+use Rattle.model.specs.Lists.{Some, Mem, All, Pairs, Begins, filled, inTurn}
+use Rattle.model.specs.Sheet.{Plant, Read, got, edition1, readSheet, decisionSizes, sizes}
 use Rattle.model.specs.Assignment.{Assignment, code, full}
 use Rattle.model.specs.Order.{Order, Before, orderOf, Entry, entryOf, leadingStates, wholeSet}
 use Rattle.model.specs.Listing.{State, Ending, ended}
-use Rattle.model.specs.Calls.{Ground, firstGiven, odd, refused, Buffers, hostGrounds, offersOf, buffersAfter, countsOf, entriesOf, runList, calledOf, runOf, listingWith}
+use Rattle.model.specs.Calls.{Ground, firstGiven, odd, refused, Buffers, hostGrounds, offersOf, stateBytes, valueBytes, buffersAfter, countsOf, entriesOf, runList, calledOf, runOf, listingWith}
 use Rattle.theory.specs.BestFirst.{Inv}
 use Rattle.theory.specs.Plant.{Accepted, Sized}
 use Rattle.theory.specs.Order.{In, Lawful}
@@ -29,6 +29,7 @@ use Rattle.theory.proofs.Order.{code-injective, cost-lawful}
 use Rattle.theory.proofs.Sheet.{accepted}
 use Rattle.theory.proofs.Test.{accepted-present}
 use Rattle.theory.proofs.Listing.{listing-done}
+use Rattle.theory.proofs.Shown.{accepted-few, shown-bytes, shown-at}
 
 -- ---- the whole set and a run's states
 
@@ -87,7 +88,7 @@ module _ {A : Type 0} (d : A) where
 
 -- ---- demand 3 of a finished run
 
-module _ (p : Plant) (o : Order) (law : Lawful (decisionSizes p) o) (short : length (decisionSizes p) ≤ 16) (small : All (λ s. s ≤ 16) (decisionSizes p)) where
+module _ (p : Plant) (o : Order) (law : Lawful (decisionSizes p) o) (short : length (decisionSizes p) ≤ 16) (small : All (λ s. s ≤ 16) (decisionSizes p)) (few : length (sizes p) ≤ stateBytes) where
   module _ (k limit : ℕ) (survivors : List Assignment) (b : Buffers) (e : Ending) (s : State) (done : Done p o k limit survivors (length (b .queue) / 2) e s) where
     -- the search at its end
     search : Inv (Before o) (In (decisionSizes p)) (Good p) (s .queue) (s .listed)
@@ -104,6 +105,10 @@ module _ (p : Plant) (o : Order) (law : Lawful (decisionSizes p) o) (short : len
         go : Mem f (s .listed) ⊎ Some (In (decisionSizes p) f) (s .queue) → (j : ℕ) × (j < i) × (getD (s .listed) j [] ≡ f)
         go (inl m) = earlier [] (Before o) (law .irreflexive) (law .transitive) f (s .listed) (search .ascending) m i h r
         go (inr q) = absurd (law .irreflexive f (law .transitive f (getD (s .listed) i []) f r (all-at [] (λ x. Before o x f) (s .listed) (search .before f q) i h)))
+
+    -- as many bytes are written as show the states
+    values-after : length (inTurn valueBytes (s .shown)) ≡ stateBytes * length (s .listed)
+    values-after = shown-bytes p few (s .listed) (s .shown) (done .kept .shown)
 
     pub demand3-done : Demand3 p o k b limit e (countsOf s) (buffersAfter o b s) (s .struck)
     unfolding wholeSet buffersAfter
@@ -122,6 +127,7 @@ module _ (p : Plant) (o : Order) (law : Lawful (decisionSizes p) o) (short : len
           (sym (filled-at code (s .listed) (b .codes) [] i h) ∙ q) in
           let t = state-earlier i h f gf (rw same r) in
           (t .0, t .1, filled-at code (s .listed) (b .codes) [] (t .0) (omega (arith, t .1)) ∙ ap code (t .2));
+      shown = λ i h. (getD (s .listed) i [], state-at i h .0, filled-at code (s .listed) (b .codes) [] i h, shown-at p few (s .listed) (s .shown) (done .kept .shown) _ i h);
       stored = record {
         survivors = survivors;
         since = done .kept .store .since;
@@ -136,6 +142,7 @@ module _ (p : Plant) (o : Order) (law : Lawful (decisionSizes p) o) (short : len
       full-why = λ q. (s .listed, run-list o b s, rw (done .kept .store .parts) at (done .full-why q));
       codes-kept = rw (← length-map (s .listed) code) (filled-drop (map code (s .listed)) (b .codes));
       costs-kept = rw (← length-map (s .listed) (o .figure)) (filled-drop (map (o .figure) (s .listed)) (b .costs));
+      values-kept = rw (← values-after) (filled-drop (inTurn valueBytes (s .shown)) (b .values));
       queue-zero = refl;
     }
 
@@ -152,6 +159,16 @@ module _ (sheet : List ℕ) (p : Plant) (end : ℕ) (e : readSheet edition1 shee
 
   sheet-sized : All Sized (decisionSizes p)
   sheet-sized = all-image length Sized (p .costs) (sheet-accepted .decision-sizes)
+
+  sheet-few : length (sizes p) ≤ stateBytes
+  sheet-few = accepted-few p sheet-accepted
+
+  -- so that codes tell its states apart
+  pub sheet-codes : length (decisionSizes p) ≤ 16
+  sheet-codes = rw (length-map (p .costs) length) sheet-short
+
+  pub sheet-small : All (λ s. s ≤ 16) (decisionSizes p)
+  sheet-small = all-map (λ s h. h .1) (decisionSizes p) sheet-sized
 
   pub sheet-lawful : Lawful (decisionSizes p) (orderOf p)
   sheet-lawful = cost-lawful p sheet-short (sheet-accepted .decision-sizes)
@@ -175,7 +192,7 @@ module _ (sheet : List ℕ) (p : Plant) (end : ℕ) (e : readSheet edition1 shee
           r .1,
           r .2,
           r .3,
-          demand3-done p (orderOf p) sheet-lawful (rw (length-map (p .costs) length) sheet-short) (all-map (λ s h. h .1) (decisionSizes p) sheet-sized)
+          demand3-done p (orderOf p) sheet-lawful sheet-codes sheet-small sheet-few
               k limit (r .0) b (r .1) (r .2) (r .4),
         )
 
@@ -194,7 +211,8 @@ unfolding hostGrounds
 queue-given k b held resultShort e =
     let wanted = none-given _ _ e in
     let lists = none-given _ _ (wanted .1) in
-    let queue = none-given _ _ (lists .1) in
+    let values = none-given _ _ (lists .1) in
+    let queue = none-given _ _ (values .1) in
     ltb-false (length (b .queue)) 2 (or-neither (odd (length (b .queue))) (ltb (length (b .queue)) 2) (or-neither _ _ (queue .0) .0) .1)
 
 -- whatever is asked, a refusal changes nothing, and anything else is a run of which demand 3 holds

@@ -1,19 +1,23 @@
--- Results that demand 3 rules out: an invented tally, a state left out, one listed twice, 'all' with a state missing, 'enough' with one too few, 'spent' with trials left, 'full' with room left, a wrong cost. Assumes nothing.
+-- Results that demand 3 rules out: an invented tally, a state left out, one listed twice, 'all' with a state missing, 'enough' with one too few, 'spent' with trials left, 'full' with room left, a wrong cost, zeros shown for a state, a byte beyond D + S. Assumes nothing.
 use mathlib.Core.Path.{_≡_, refl, sym, _∙_, ap}
 use mathlib.Core.Logic.{inl, inr}
-use mathlib.Core.Bool.{Bool, true, false}
-use mathlib.Core.List.{List, [], _∷_}
-use Prim.Native.Nat.{ℕ, _+_, _/_, _≤_, _<_}
+use mathlib.Core.Bool.{Bool, true, false, false≢true}
+use mathlib.Core.List.{List, [], _∷_, _++_}
+use Prim.Native.Nat.{ℕ, _+_, _-_, _/_, _≤_, _<_}
 use native.Mathlib.Omega.{arith}
-use lib.ListN.{length, getD}
+use lib.ListN.{length, getD, replicate, List·getD-eq-default}
 use Rattle.model.specs.Lists.{Begins}
-use Rattle.model.specs.Sheet.{Plant, decisionSizes}
+use Rattle.model.specs.Sheet.{Plant, decisionSizes, sizes}
+use Rattle.model.specs.Assignment.{Fits}
+use Rattle.model.specs.Consistency.{holdsAt, literalHolds, clauseHolds, allHold}
 use Rattle.model.specs.Order.{Order, Entry, orderOf, product}
 use Rattle.model.specs.Listing.{Ending, enough, all, mostTested}
-use Rattle.model.specs.Calls.{Buffers, Counts, runList}
+use Rattle.model.specs.Calls.{Buffers, Counts, stateBytes, runList, stateValues}
 use Rattle.model.specs.Edges.{smallPlant, small-whole}
 use Rattle.theory.specs.Run.{strikes}
 use Rattle.theory.specs.Demand3.{Demand3}
+use Rattle.theory.proofs.Agreement.{fits-length}
+use Rattle.theory.proofs.Digits.{zeros-behind}
 
 -- the limit strikes at most once
 strikes-most : (b : Bool) → strikes b ≤ 1
@@ -45,6 +49,13 @@ module _ {p : Plant} {o : Order} {k : ℕ} {before : Buffers} {limit : ℕ} {e :
   -- 'full' where the queue's entries and the states listed are together as many as the product of the sizes
   pub no-full-early : e ≡ Ending.full → product (decisionSizes p) ≤ length (before .queue) / 2 + c .listed → ⊥
   no-full-early f h = omega (arith, d .full-small f)
+
+  -- a byte beyond D + S
+  pub no-byte-beyond : (i v : ℕ) → i < c .listed → length (sizes p) ≤ v → 0 < getD (stateValues i after) v 0 → ⊥
+  no-byte-beyond i v h l b =
+      let s = d .shown i h .3 in
+      let none-there : getD (s .values) v 0 ≡ 0 = List·getD-eq-default (s .values) 0 {n = v} (omega (arith, fits-length (sizes p) (s .values) (s .satisfies .fits))) in
+      omega (arith, ap (λ (bytes : List ℕ). getD bytes v 0) (s .are) ∙ zeros-behind (s .values) (stateBytes - length (sizes p)) v ∙ none-there)
 
 -- the small plant has four full assignments
 small-product : product (decisionSizes smallPlant) ≡ 4
@@ -82,6 +93,23 @@ module _ {k : ℕ} {before : Buffers} {limit : ℕ} {e : Ending} {c : Counts} {a
   -- a wrong cost
   pub no-wrong-cost : runList (c .listed) after ≡ record { code = 0x0100000000000000; figure = 4 } ∷ [] → ⊥
   no-wrong-cost h = let z : _≡_ {A = ℕ} 3 4 = ap (λ (l : List Entry). getD l 0 first .figure) (begins-three h .1) in omega arith
+
+  -- zeros shown for a state
+  pub no-zeros-shown : (i : ℕ) → i < c .listed → stateValues i after ≡ replicate 48 0 → ⊥
+  unfolding smallPlant allHold clauseHolds literalHolds holdsAt
+  no-zeros-shown i h e = let s = d .shown i h .3 in go (s .values) (s .satisfies .fits) (s .satisfies .holds) (sym e ∙ s .are)
+    where
+      go : (f : List ℕ) → Fits (sizes smallPlant) f → allHold f (smallPlant .clauses) ≡ true → replicate 48 0 ≡ f ++ replicate 45 0 → ⊥
+      go [] fits holds z = fits
+      go (x ∷ []) fits holds z = fits .1
+      go (x ∷ y ∷ []) fits holds z = fits .1 .1
+      go (x ∷ y ∷ w ∷ v ∷ f) fits holds z = fits .1 .1 .1
+      go (x ∷ y ∷ w ∷ []) fits holds z =
+          let at : (v : ℕ) → getD {A = ℕ} (replicate 48 0) v 0 ≡ getD (x ∷ y ∷ w ∷ replicate 45 0) v 0 = λ v. ap (λ (bytes : List ℕ). getD bytes v 0) z in
+          let first : x ≡ 0 = sym (at 0) in
+          let second : y ≡ 0 = sym (at 1) in
+          let third : w ≡ 0 = sym (at 2) in
+          false≢true (rw (first, second, third) at holds)
 
   -- 'full' with a queue of 4,096 entries
   pub no-full-roomy : e ≡ Ending.full → length (before .queue) ≡ 8192 → ⊥

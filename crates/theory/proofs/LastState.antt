@@ -55,7 +55,7 @@ wins-more (more s) t h = h
 -- what they come to: not 'enough'; where the run goes on, nothing was listed or the node was
 abbrev Expanded : State → List Assignment → Assignment → Next → Type 0
 Expanded s rest n (ended e t) = e ≡ enough → ⊥
-Expanded s rest n (more u) = (u .listed ≡ s .listed) ⊎ ((t : ℕ) × (u ≡ listedOne s rest (valueList n) t))
+Expanded s rest n (more u) = (u .listed ≡ s .listed) ⊎ ((w : List ℕ) × (t : ℕ) × (u ≡ listedOne s rest (valueList n) w t))
 
 -- so it came to the same before
 expanded-wins : (s : State) (rest : List Assignment) (n : Assignment) (x : Next) → Expanded s rest n x → allWins x ≡ x
@@ -90,7 +90,7 @@ module _ (p : Plant) (o : Order) (k entries places limit : ℕ) where
       where
         go : (b : Bool) → ltb (s .tested) mostTested ≡ b → (r : Tested) → test p limit n (s .trials) ≡ r → Expanded s rest n (judge p o k entries places limit s rest n)
         go false e r f = rw (judge, e) (λ d. differ (cc))
-        go true e (consistent w t) f = rw (judge, e, f) (inr (t, refl))
+        go true e (consistent w t) f = rw (judge, e, f) (inr (w, t, refl))
         go true e (inconsistent t) f = rw (judge, e, f) (learn-expanded t)
         go true e (Tested.spent t) f = rw (judge, e, f) (λ d. differ (cc))
 
@@ -166,7 +166,7 @@ module _ (p : Plant) (o : Order) (k entries places limit : ℕ) where
   module _ (s : State) (l : Leaves s) where
     -- the state with the k-th listed
     abbrev last : State
-    last = listedOne (l .before) [] (valueList (l .node)) (l .trials)
+    last = listedOne (l .before) [] (valueList (l .node)) (l .values) (l .trials)
 
     -- the former step ends there
     last-ends : former last ≡ ended enough last
@@ -201,6 +201,7 @@ module _ (p : Plant) (o : Order) (k entries places limit : ℕ) where
     steps = suc (l .steps);
     before = l .before;
     node = l .node;
+    values = l .values;
     trials = l .trials;
     reached = rw (run, h) (l .reached);
     only = l .only;
@@ -226,18 +227,19 @@ module _ (p : Plant) (o : Order) (k entries places limit : ℕ) where
     left-on u f = rw (formerRun, f) at ends
 
     -- the k-th state is listed
-    left-listed : (u : State) (trials : ℕ) → former s ≡ more u → u ≡ listedOne s rest (valueList n) trials → suc (length (s .listed)) ≡ k
+    left-listed : (u : State) (values : List ℕ) (trials : ℕ) → former s ≡ more u → u ≡ listedOne s rest (valueList n) values trials → suc (length (s .listed)) ≡ k
         → Leaves s
     unfolding run
-    left-listed u trials f is most =
+    left-listed u values trials f is most =
         let long : k ≤ length (u .listed) = rw is (simp length-append (omega arith)) in
         let stopped : t ≡ u = former-stops fuel u t enough long (left-on u f) in
         let none-left : rest ≡ [] = sym (ap (λ (v : State). v .queue) (stopped ∙ is)) ∙ empty in
-        let same : u ≡ listedOne s [] (valueList n) trials = is ∙ ap (λ (q : List Assignment). listedOne s q (valueList n) trials) none-left in
+        let same : u ≡ listedOne s [] (valueList n) values trials = is ∙ ap (λ (q : List Assignment). listedOne s q (valueList n) values trials) none-left in
         record {
           steps = 0;
           before = s;
           node = n;
+          values = values;
           trials = trials;
           reached = refl;
           only = head ∙ ap (λ (q : List Assignment). n ∷ q) none-left;
@@ -251,8 +253,8 @@ module _ (p : Plant) (o : Order) (k entries places limit : ℕ) where
     left-step (ended e u) f h = let same : ended e u ≡ ended enough t = rw (formerRun, f) at ends in absurd (h (cc))
     left-step (more u) f (inl same) = left-earlier s u (step-wins s ∙ ap allWins f) (later u (rw same below) (left-on u f))
     left-step (more u) f (inr h) = elim (decLe k (suc (length (s .listed)))) [
-      | yes most ↦ left-listed u (h .0) f (h .1) (omega arith)
-      | no few ↦ left-earlier s u (step-wins s ∙ ap allWins f) (later u (rw (h .1) (simp length-append (omega arith))) (left-on u f))
+      | yes most ↦ left-listed u (h .0) (h .1) f (h .2) (omega arith)
+      | no few ↦ left-earlier s u (step-wins s ∙ ap allWins f) (later u (rw (h .2) (simp length-append (omega arith))) (left-on u f))
     ]
 
   -- from a state with fewer than k listed

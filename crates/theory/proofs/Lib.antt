@@ -30,6 +30,7 @@ pub mod Rewritten
 pub mod Run
 pub mod Search
 pub mod Sheet
+pub mod Shown
 pub mod Refusals
 pub mod TableClauses
 pub mod Tables

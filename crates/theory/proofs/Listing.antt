@@ -59,6 +59,7 @@ module _ (p : Plant) (o : Order) (law : Lawful (decisionSizes p) o) (present : V
   start-going survivors used a h = record {
     kept = record {
       searching = searching-start p o law;
+      shown = tt;
       store = record { since = []; parts = sym (append-nil survivors); count = refl; offered = a; minimal = tt };
       sum = refl;
       tested = omega arith;

@@ -7,7 +7,7 @@ use native.Mathlib.Nat.{add-zero}
 use native.Mathlib.Numerals.{add-one}
 use lib.ListN.{length, getD, take, drop, set, length-append, length-drop, take-append-drop, drop-of-length-le}
 use lib.Seq.{length-take-le, take-suc, set-at, take-at, drop-append-add, drop-cons, drop-drop}
-use Rattle.model.specs.Lists.{inTurn}
+use Rattle.model.specs.Lists.{inTurn, filled}
 use Rattle.theory.specs.Puts.{written, Puts}
 
 -- what stands before the rest is as long as it should be
@@ -55,6 +55,22 @@ pub written-back : (place i x : ℕ) (text longer before : List ℕ) → 0 < i �
 written-back place i x text longer before p h e =
     let f : place + i ≡ suc (place + (i - 1)) = omega arith in
     rw (e, f) (written-one (place + (i - 1)) x text before (omega arith))
+
+-- a text put behind what fills a buffer fills it further
+pub filled-then : (xs text buffer : List ℕ) → written (length xs) text (filled xs buffer) ≡ filled (xs ++ text) buffer
+unfolding written
+filled-then xs text buffer =
+    let rest = drop (length xs) buffer in
+    rw (take-at xs rest (length xs) refl, drop-past xs rest (length xs) (length text) refl, drop-drop (length text) (length xs) buffer, length-append xs text)
+
+-- a text put at the front fills the first places
+pub puts-front : {text before after : List ℕ} {next : ℕ} → Puts 0 text before next after → after ≡ filled text before
+unfolding written
+puts-front {text} p = let e : 0 + length text ≡ length text = omega arith in p .buffer ∙ rw e
+
+-- and one that is as long as the buffer is all of it
+pub puts-whole : {text before after : List ℕ} {next : ℕ} → Puts 0 text before next after → length before ≡ length text → after ≡ text
+puts-whole {text} {before} p e = puts-front p ∙ rw (drop-of-length-le before {i = length text} (omega arith)) (append-nil text)
 
 -- ---- a run of texts
 

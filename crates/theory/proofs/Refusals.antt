@@ -115,7 +115,7 @@ first-number Kind (g ∷ gs) h n q = go (first-number Kind gs (h .1) n) (g .give
 pub host-number : (k : ℕ) (b : Buffers) (held : ℕ) (resultShort : Bool) (n : ℕ) → firstGiven (hostGrounds k b held resultShort) ≡ some n → HostNumber n
 unfolding hostGrounds
 host-number k b held resultShort n q = first-number HostNumber (hostGrounds k b held resultShort)
-    ((omega arith, omega arith), ((omega arith, omega arith), ((omega arith, omega arith), ((omega arith, omega arith), tt)))) n q
+    (inl (omega arith, omega arith), (inl (omega arith, omega arith), (inr refl, (inl (omega arith, omega arith), (inl (omega arith, omega arith), tt))))) n q
 
 -- ---- the listing call's
 

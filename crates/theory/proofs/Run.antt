@@ -11,14 +11,16 @@ use lib.Dec.{ltb}
 use lib.ListN.{length, length-append}
 use Rattle.model.specs.Lists.{All}
 use Rattle.model.specs.Sheet.{Plant, decisionSizes}
-use Rattle.model.specs.Assignment.{Assignment, isFull, valueList}
+use Rattle.model.specs.Assignment.{Assignment, isFull, valueList, full}
 use Rattle.model.specs.Consistency.{Consistent, Tested, consistent, inconsistent, test}
 use Rattle.model.specs.Conflict.{Conflict, Minimal, resolves, Reduced, conflict, reduce}
 use Rattle.model.specs.Order.{Order}
 use Rattle.model.specs.Listing.{State, Ending, Next, ended, more, weight, manifestsAny, firstUnresolved, resolving, branching, leaveOff, listedOne, unkeptOne, learnedOne, spentInTest, spentInReduction, mostTested, putChildren, learn, judge, expand, remove, step, run}
+use Rattle.model.specs.Calls.{valueBytes}
 use Rattle.theory.specs.Order.{Lawful}
 use Rattle.theory.specs.Consistency.{VariablesPresent}
 use Rattle.theory.specs.Nodes.{sumOf, weights, room}
+use Rattle.theory.specs.Shown.{Shows}
 use Rattle.theory.specs.Run.{strikes, Children, Searching, childrenOf, Kept, Going, Done, Stepped}
 use Rattle.theory.proofs.Lists.{sum-keep, keep-length}
 use Rattle.theory.proofs.Nodes.{weight-pos, rooms-length}
@@ -26,7 +28,8 @@ use Rattle.theory.proofs.Test.{test-consistent, test-inconsistent}
 use Rattle.theory.proofs.TestTrials.{test-trials, test-spent-at}
 use Rattle.theory.proofs.Reduction.{reduce-minimal}
 use Rattle.theory.proofs.ReductionTrials.{reduce-trials, reduce-spent-at}
-use Rattle.theory.proofs.Moves.{stored-conflicts, stored-more, branching-children, resolving-children, searching-put, searching-sieve, searching-drop, searching-list}
+use Rattle.theory.proofs.Shown.{each-more, test-shows}
+use Rattle.theory.proofs.Moves.{full-values, stored-conflicts, stored-more, branching-children, resolving-children, searching-put, searching-sieve, searching-drop, searching-list}
 use Rattle.theory.proofs.Queue.{enqueueAll-length, enqueueAll-sum}
 
 -- two endings are not the same
@@ -66,11 +69,12 @@ module _ (p : Plant) (o : Order) (law : Lawful (decisionSizes p) o) (present : V
 
     module _ (whole : isFull n ≡ true) (below : s .tested < mostTested) (room : length (s .listed) < k) where
       -- step 7, consistent
-      step-listed : (t : ℕ) → t ≤ limit → Consistent p n → Stepped p o k limit survivors entries s (more (listedOne s rest (valueList n) t))
-      step-listed t h c = (
+      step-listed : (w : List ℕ) (t : ℕ) → t ≤ limit → Consistent p n → Shows p n (valueBytes w) → Stepped p o k limit survivors entries s (more (listedOne s rest (valueList n) w t))
+      step-listed w t h c d = (
         record {
           kept = record {
             searching = searching-list p o law front whole c;
+            shown = each-more (λ f g. Shows p (full f) (valueBytes g)) (s .listed) (s .shown) (valueList n) w (g .kept .shown) (rw (full-values n whole) d);
             store = g .kept .store;
             sum = simp length-append (rw (g .unstruck) (omega (arith, sum)));
             tested = omega arith;
@@ -90,6 +94,7 @@ module _ (p : Plant) (o : Order) (law : Lawful (decisionSizes p) o) (present : V
           record {
             kept = record {
               searching = searching-drop p o law front whole bad;
+              shown = g .kept .shown;
               store = g .kept .store;
               sum = rw (g .unstruck) (omega (arith, sum));
               tested = omega arith;
@@ -108,6 +113,7 @@ module _ (p : Plant) (o : Order) (law : Lawful (decisionSizes p) o) (present : V
           record {
             kept = record {
               searching = searching-sieve p o law (c ∷ []) (m .conflict, tt) (searching-drop p o law front whole bad);
+              shown = g .kept .shown;
               store = stored-more p c m (g .kept .store);
               sum = rw (g .unstruck) (omega (arith, sum));
               tested = omega arith;
@@ -131,6 +137,7 @@ module _ (p : Plant) (o : Order) (law : Lawful (decisionSizes p) o) (present : V
                 (step-learned c t′ (rw f at (reduce-trials p limit n t .within h)) (reduce-minimal p present limit n (front .valid .0) bad t c t′ f))
             go true e (Reduced.spent t′) f = rw (learn, e, f) (spent-done (spentInReduction s t′) (record {
               searching = g .kept .searching;
+              shown = g .kept .shown;
               store = g .kept .store;
               sum = omega (arith, sum);
               tested = omega arith;
@@ -146,13 +153,15 @@ module _ (p : Plant) (o : Order) (law : Lawful (decisionSizes p) o) (present : V
         go : (b : Bool) → ltb (s .tested) mostTested ≡ b → (r : Tested) → test p limit n (s .trials) ≡ r → Stepped p o k limit survivors entries s (judge p o k entries places limit s rest n)
         go false e r f = rw (judge, e) (spent-done s (g .kept) (inr (omega (arith, ltb-false (s .tested) mostTested e, g .kept .tested))))
         go true e (consistent w t) f = rw (judge, e, f)
-            (step-listed whole (ltb-true _ _ e) room t (rw f at (test-trials p limit n (s .trials) .within (g .kept .trials)))
-            (w, test-consistent p present limit n (front .valid .0) (s .trials) w t f))
+            (step-listed whole (ltb-true _ _ e) room w t (rw f at (test-trials p limit n (s .trials) .within (g .kept .trials)))
+            (w, test-consistent p present limit n (front .valid .0) (s .trials) w t f)
+            (test-shows p n present (front .valid .0) limit (s .trials) w t f))
         go true e (inconsistent t) f = rw (judge, e, f)
             (learn-stepped whole (ltb-true _ _ e) room (test-inconsistent p present limit n (front .valid .0) (s .trials) t f) t
             (rw f at (test-trials p limit n (s .trials) .within (g .kept .trials))))
         go true e (Tested.spent t) f = rw (judge, e, f) (spent-done (spentInTest s t) (record {
           searching = g .kept .searching;
+          shown = g .kept .shown;
           store = g .kept .store;
           sum = g .kept .sum;
           tested = g .kept .tested;
@@ -190,6 +199,7 @@ module _ (p : Plant) (o : Order) (law : Lawful (decisionSizes p) o) (present : V
           record {
             kept = record {
               searching = searching-put p o law front (s .store) children (stored-conflicts p (g .kept .store)) c;
+              shown = g .kept .shown;
               store = g .kept .store;
               sum = g .kept .sum;
               tested = g .kept .tested;

@@ -3,7 +3,7 @@ use mathlib.Core.Path.{_≡_}
 use mathlib.Core.Logic.{_⊎_}
 use mathlib.Core.Bool.{Bool, true}
 use mathlib.Core.List.{List, _++_, map}
-use Prim.Native.Nat.{ℕ, _+_, _/_, _≤_, _<_}
+use Prim.Native.Nat.{ℕ, _+_, _*_, _/_, _≤_, _<_}
 use lib.ListN.{length, getD, drop, replicate}
 use Rattle.model.specs.Lists.{All, Begins, filled}
 use Rattle.model.specs.Sheet.{Plant, got, edition1, readSheet, decisionSizes}
@@ -11,8 +11,9 @@ use Rattle.model.specs.Assignment.{Assignment, code}
 use Rattle.model.specs.Conflict.{Conflict, Minimal}
 use Rattle.model.specs.Order.{Order, Before, orderOf, product, entryOf, wholeSet}
 use Rattle.model.specs.Listing.{Ending, enough, all, mostTested}
-use Rattle.model.specs.Calls.{refused, answered, Buffers, Counts, ran, unfinished, Answer, Called, entryWords, runList}
+use Rattle.model.specs.Calls.{refused, answered, Buffers, Counts, ran, unfinished, Answer, Called, stateBytes, entryWords, runList}
 use Rattle.theory.specs.Run.{strikes, Good, Overfull}
+use Rattle.theory.specs.Shown.{ShownAt}
 
 -- the store after a run: conflicts that survived step 1, then minimal ones that were learned, then zeros
 pub record StoreAfter (p : Plant) (learned : ℕ) (before after : List ℕ) : Type 0 where
@@ -43,6 +44,8 @@ pub record Demand3 (p : Plant) (o : Order) (k : ℕ) (before : Buffers) (limit :
   -- no full consistent assignment stands before the first or between neighbours: one that comes before the state at a place stands at an earlier place
   pub gapless : (i : ℕ) → i < c .listed → (f g : List ℕ) → Good p f → Good p g → getD (after .codes) i 0 ≡ code g → Before o f g
       → (j : ℕ) × (j < i) × (getD (after .codes) j 0 ≡ code f)
+  -- the 48 bytes of each place show the state: values within the domains that satisfy every clause and agree with the code, zero beyond D + S, and the first such values in trial order
+  pub shown : (i : ℕ) → i < c .listed → ShownAt p after i
   -- survivors and learned are conflicts, and the learned ones minimal
   pub stored : StoreAfter p (c .learned) (before .store) (after .store)
   -- the counts' bounds
@@ -52,9 +55,10 @@ pub record Demand3 (p : Plant) (o : Order) (k : ℕ) (before : Buffers) (limit :
   pub full-small : e ≡ Ending.full → length (before .queue) / 2 + c .listed < product (decisionSizes p)
   -- and only where the children of a node outnumber the free entries, with the conflicts that are stored and the states that are listed
   pub full-why : e ≡ Ending.full → (fs : List (List ℕ)) × (runList (c .listed) after ≡ map (entryOf o) fs) × Overfull p o (length (before .queue) / 2) (stored .survivors ++ stored .since) fs
-  -- codes and costs beyond listed are unchanged, and the queue is zero
+  -- codes, costs and values beyond listed are unchanged, and the queue is zero
   pub codes-kept : drop (c .listed) (after .codes) ≡ drop (c .listed) (before .codes)
   pub costs-kept : drop (c .listed) (after .costs) ≡ drop (c .listed) (before .costs)
+  pub values-kept : drop (stateBytes * c .listed) (after .values) ≡ drop (stateBytes * c .listed) (before .values)
   pub queue-zero : after .queue ≡ replicate (length (before .queue)) 0
 
 -- what a listing call promises of any input: a refusal changes no lent buffer; any other answer is a run with one of the four endings, of the plant that the sheet says, and demand 3 holds of it

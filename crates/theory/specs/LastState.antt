@@ -63,11 +63,12 @@ pub record LeavesEmpty (p : Plant) (o : Order) (k entries places limit : ℕ) (f
   pub steps : ℕ
   pub before : State
   pub node : Assignment
+  pub values : List ℕ
   pub trials : ℕ
   pub reached : run p o k entries places limit steps from ≡ more before
   pub only : before .queue ≡ node ∷ []
   pub fewer : suc (length (before .listed)) ≡ k
-  pub lists : step p o k entries places limit before ≡ more (listedOne before [] (valueList node) trials)
+  pub lists : step p o k entries places limit before ≡ more (listedOne before [] (valueList node) values trials)
 
 -- the same of a call: nothing is refused, and it holds of the run from where step 1 leaves it
 pub record CallLeavesEmpty (sheet : List ℕ) (k : ℕ) (b : Buffers) (held limit : ℕ) (resultShort : Bool) : Type 0 where

@@ -11,6 +11,7 @@ pub mod Puts
 pub mod Refusals
 pub mod Run
 pub mod Search
+pub mod Shown
 pub mod Tables
 pub mod TwoRuns
 pub mod Value

@@ -6,7 +6,7 @@ use Rattle.model.specs.Calls.{Refusal, byHost, byAuthor}
 
 -- the host's before the sheet
 abbrev pub HostNumber : ℕ → Type 0
-HostNumber n = (1 ≤ n) × (n ≤ 4)
+HostNumber n = ((1 ≤ n) × (n ≤ 4)) ⊎ (n ≡ 19)
 
 -- the author's
 abbrev pub AuthorNumber : ℕ → Type 0

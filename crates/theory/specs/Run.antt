@@ -13,8 +13,10 @@ use Rattle.model.specs.Consistency.{Consistent}
 use Rattle.model.specs.Conflict.{Conflict, Minimal}
 use Rattle.model.specs.Order.{Order, Before, product}
 use Rattle.model.specs.Listing.{State, Ending, enough, all, Next, ended, more, weight, firstUnresolved, resolving, branching, leaveOff, mostTested}
+use Rattle.model.specs.Calls.{valueBytes}
 use Rattle.theory.specs.BestFirst.{Apart, Inv}
 use Rattle.theory.specs.Order.{In}
+use Rattle.theory.specs.Shown.{Shows, Each}
 use Rattle.theory.specs.Nodes.{Ordered, weights, room, rooms}
 
 -- one where the limit struck inside a reduction
@@ -66,6 +68,7 @@ module _ (p : Plant) (o : Order) (k limit : ℕ) (survivors : List Assignment) w
   -- between steps, and at the end
   pub record Kept (s : State) : Type 0 where
     pub searching : Searching p o (s .queue) (s .listed)
+    pub shown : Each (λ f g. Shows p (full f) (valueBytes g)) (s .listed) (s .shown)
     pub store : Stored p survivors (s .learned) (s .store)
     pub sum : s .tested ≡ length (s .listed) + s .learned + s .unkept + strikes (s .struck)
     pub tested : s .tested ≤ mostTested

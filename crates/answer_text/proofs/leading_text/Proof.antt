@@ -26,6 +26,9 @@ slice-aggregate-list-3 c = search needs
 slice-aggregate-list-4 : tie.Need-slice-aggregate-list-4
 slice-aggregate-list-4 c = search needs
 
+slice-aggregate-list-5 : tie.Need-slice-aggregate-list-5
+slice-aggregate-list-5 c = search needs
+
 list-requires : tie.Need-list-requires
 list-requires c κs = search needs
 
@@ -49,7 +52,7 @@ slice-aggregate-put-run-2 c = search needs
 
 put-run-requires : tie.Need-put-run-requires
 put-run-requires c κs =
-    let called = c .before .before .before .before .before .before .before .before .before .before in
+    let called = c .before .before .before .before .before .before .before .before .before .before .before in
     let ran = c .before .before .before .before .e .given in
     let promised = rw (ran .1) at (called .list .ensures .1) in
     let last = called .list .last .1 .1 in (
@@ -61,12 +64,12 @@ put-run-requires c κs =
 returns : tie.Need-returns
 unfolding programBuffers
 returns c =
-    let called = c .before .before .before .before .before .before .before .before .before .before in
+    let called = c .before .before .before .before .before .before .before .before .before .before .before in
     let r = c .before .before .before .before .r .given in
     let number = c .before .number in
-    let sheet = c .before .before .before .before .before .before .before .before .before .before .before .before .before .before .before .before .args .sheet .now in
+    let sheet = c .before .before .before .before .before .before .before .before .before .before .before .before .before .before .before .before .before .before .args .sheet .now in
     let last = called .list .last .1 .1 in
-    let after = buffers (last .0) (last .1 .0) (last .1 .1 .0) (last .1 .1 .1 .0) in
+    let after = buffers (last .0) (last .1 .0) (last .1 .1 .0) (last .1 .1 .1 .0) (last .1 .1 .1 .1 .0) in
     puts-whole
     (refused-text sheet (refusalOf (r .0 .0)) after (rw (r .1) at (called .list .ensures .0)) ∙ ap refusalLine (sym (number .ensures)))
     (omega (arith, refusal-most (number .result)))
@@ -75,11 +78,11 @@ returns c =
 returns-2 : tie.Need-returns-2
 unfolding programBuffers
 returns-2 c =
-    let called = c .before .before .before .before .before .before .before .before .before .before .before in
+    let called = c .before .before .before .before .before .before .before .before .before .before .before .before in
     let ran = c .before .before .before .before .before .e .given in
-    let sheet = c .before .before .before .before .before .before .before .before .before .before .before .before .before .before .before .before .before .args .sheet .now in
+    let sheet = c .before .before .before .before .before .before .before .before .before .before .before .before .before .before .before .before .before .before .before .args .sheet .now in
     let last = called .list .last .1 .1 in
-    let after = buffers (last .0) (last .1 .0) (last .1 .1 .0) (last .1 .1 .1 .0) in
+    let after = buffers (last .0) (last .1 .0) (last .1 .1 .0) (last .1 .1 .1 .0) (last .1 .1 .1 .1 .0) in
     let promised = rw (ran .1) at (called .list .ensures .1) in
     puts-whole
     (ran-text sheet (ran .0 .0) (ran .0 .1 .0) after (rw (ran .1) at (called .list .ensures .0)))
@@ -95,6 +98,7 @@ leading-text-spec =
     slice-aggregate-list-2
     slice-aggregate-list-3
     slice-aggregate-list-4
+    slice-aggregate-list-5
     list-requires
     enum-known-r
     number-requires

@@ -9,10 +9,6 @@ use Rattle.conflict.proofs.Given.{tabled-limits}
 use Rattle.refusal.proofs.Reading.{Opened, opened}
 use Rattle.conflict_call.proofs.conflict_call.Statement.{statement}
 use Rattle.conflict_call.proofs.conflict_call.Tie as tie
-use Rattle.conflict_call.proofs.conflict_call.Reads as reads
-use Rattle.conflict_call.proofs.conflict_call.Lts as lts
-use Rattle.conflict_call.proofs.conflict_tables.Reads as conflict-tables-reads
-use Rattle.sheet.proofs.read.Reads as read-reads
 
 slice-aggregate-read : tie.Need-slice-aggregate-read
 slice-aggregate-read c = search needs
@@ -32,11 +28,14 @@ read-requires c κs = search needs
 enum-known-n : tie.Need-enum-known-n
 enum-known-n c = search needs
 
+refused-requires : tie.Need-refused-requires
+refused-requires c κs = search needs
+
 enum-known-d : tie.Need-enum-known-d
 enum-known-d c = search needs
 
 -- an accepted sheet's tables, where the three counts have been taken out of the reader's answer
-tables : (k : lts.After-d (read-reads.Asked, read-reads.Learnt, conflict-tables-reads.Asked, conflict-tables-reads.Learnt) reads.Pre reads.Post)
+tables : (k : tie.After-d)
     → Opened (k .before .before .before .before .before .before .before .before .before .before .before .before .args .sheet .now)
     (k .before .before .before .before .before .before .read .last .1 .0) (k .before .before .before .before .before .before .read .last .1 .1 .0)
     (k .before .before .before .before .before .before .read .last .1 .1 .1 .0) (k .before .before .before .before .before .before .read .last .1 .1 .1 .1 .0)
@@ -67,7 +66,7 @@ conflict-tables-requires : tie.Need-conflict-tables-requires
 conflict-tables-requires c κs = tabled-limits (tables (c .before .before .before .before) .tabled)
 
 returns : tie.Need-returns
-returns c = sheet-refuses _ _ _ _ (refused-by _ _ _ _ _ (c .before .n .given .1) (c .before .before .before .before .before .before .before .read .ensures .0))
+returns c = rw (c .refused .ensures) (sheet-refuses _ _ _ _ (refused-by _ _ _ _ _ (c .before .before .n .given .1) (c .before .before .before .before .before .before .before .before .read .ensures .0)))
 
 returns-2 : tie.Need-returns-2
 returns-2 c = let o = tables (c .before .before .before .before .before) in sheet-answers _ _ _ _ (o .read) (c .conflict-tables .ensures (o .plant) _ (o .tabled))
@@ -82,6 +81,7 @@ conflict-call-spec =
     slice-aggregate-read-4
     read-requires
     enum-known-n
+    refused-requires
     enum-known-d
     add-n
     array-share-prefix-sizes

@@ -13,8 +13,11 @@ use Rattle.conflict_call.proofs.conflict_tables.Tie as tie
 unfit-requires : tie.Need-unfit-requires
 unfit-requires c κs = search needs
 
+refused-requires : tie.Need-refused-requires
+refused-requires c κs = search needs
+
 returns : tie.Need-returns
-returns c p costs t = plant-refuses t _ _ _ (c .before .unfit .ensures) (c .if1 .taken)
+returns c p costs t = rw (c .refused .ensures) (plant-refuses t _ _ _ (c .before .before .unfit .ensures) (c .before .if1 .taken))
 
 slice-aggregate-prepare : tie.Need-slice-aggregate-prepare
 slice-aggregate-prepare c = search needs
@@ -46,6 +49,7 @@ conflict-tables-spec =
     tie.close
     (tie.spec
     unfit-requires
+    refused-requires
     returns
     slice-aggregate-prepare
     slice-aggregate-prepare-2

@@ -19,22 +19,22 @@ Called = lts.After-list-with (list-with-reads.Asked, list-with-reads.Learnt, num
 
 module _ (k : Called) where
   abbrev sheet₀ : List ℕ
-  sheet₀ = k .before .before .before .before .before .before .before .before .before .before .before .args .sheet .now
+  sheet₀ = k .before .before .before .before .before .before .before .before .before .before .before .before .before .args .sheet .now
 
   abbrev lent₀ : Buffers
-  lent₀ = let s = k .before .before .before .before .before .before .before .before .before .before .before .args in buffers (s .codes .now) (s .costs .now) (s .queue .now) (s .store .now)
+  lent₀ = let s = k .before .before .before .before .before .before .before .before .before .before .before .before .before .args in buffers (s .codes .now) (s .costs .now) (s .values .now) (s .queue .now) (s .store .now)
 
   abbrev result₀ : List ℕ
-  result₀ = k .before .before .before .before .before .before .before .before .before .before .before .args .result .now
+  result₀ = k .before .before .before .before .before .before .before .before .before .before .before .before .before .args .result .now
 
   abbrev k₀ : ℕ
-  k₀ = k .before .before .before .before .before .before .before .before .before .before .before .args .k
+  k₀ = k .before .before .before .before .before .before .before .before .before .before .before .before .before .args .k
 
   abbrev held₀ : ℕ
-  held₀ = k .before .before .before .before .before .before .before .before .before .before .before .args .held
+  held₀ = k .before .before .before .before .before .before .before .before .before .before .before .before .before .args .held
 
   abbrev limit₀ : ℕ
-  limit₀ = k .before .before .before .before .before .before .before .before .before .before .before .args .limit
+  limit₀ = k .before .before .before .before .before .before .before .before .before .before .before .before .before .args .limit
 
 list-with-requires : tie.Need-list-with-requires
 list-with-requires c κs = search needs
@@ -50,7 +50,7 @@ enum-known-e c = search needs
 
 write-requires : tie.Need-write-requires
 write-requires c κs =
-    let called = c .before .before .before .before .before .before .before .before .before .before .before .before in
+    let called = c .before .before .before .before .before .before .before .before .before .before .before .before .before .before in
     ran-long (sheet₀ called) (k₀ called) (lent₀ called) (held₀ called) (limit₀ called) (result₀ called) (called .list-with .ensures) (c .before .before .e .given .1)
 
 same-length : tie.Need-same-length
@@ -65,13 +65,13 @@ same-length-3 c = search needs
 same-length-4 : tie.Need-same-length-4
 same-length-4 c = search needs
 
-returns : tie.Need-returns
-returns c =
-    let called = c .before .before .before .before .before .before .before .before .before .before .before .before in
-    export-answered (sheet₀ called) (k₀ called) (lent₀ called) (held₀ called) (limit₀ called) (result₀ called) (called .list-with .ensures) (refused-written (result₀ called) _ (c .before .before .r .given .1) (c .number .ensures))
-
 same-length-5 : tie.Need-same-length-5
 same-length-5 c = search needs
+
+returns : tie.Need-returns
+returns c =
+    let called = c .before .before .before .before .before .before .before .before .before .before .before .before .before .before in
+    export-answered (sheet₀ called) (k₀ called) (lent₀ called) (held₀ called) (limit₀ called) (result₀ called) (called .list-with .ensures) (refused-written (result₀ called) _ (c .before .before .r .given .1) (c .number .ensures))
 
 same-length-6 : tie.Need-same-length-6
 same-length-6 c = search needs
@@ -85,10 +85,16 @@ same-length-8 c = search needs
 same-length-9 : tie.Need-same-length-9
 same-length-9 c = search needs
 
+same-length-10 : tie.Need-same-length-10
+same-length-10 c = search needs
+
+same-length-11 : tie.Need-same-length-11
+same-length-11 c = search needs
+
 returns-2 : tie.Need-returns-2
 returns-2 c =
     let taken = c .before .before .before .before .before in
-    let called = taken .before .before .before .before .before .before .before .before .before .before in
+    let called = taken .before .before .before .before .before .before .before .before .before .before .before .before in
     export-answered (sheet₀ called) (k₀ called) (lent₀ called) (held₀ called) (limit₀ called) (result₀ called) (called .list-with .ensures) (ran-written (result₀ called) _ _ (taken .e .given .1) (c .before .before .write .ensures))
 
 pub leading-list-spec : {M : Type 1} → statement M
@@ -104,10 +110,12 @@ leading-list-spec =
     same-length-2
     same-length-3
     same-length-4
-    returns
     same-length-5
+    returns
     same-length-6
     same-length-7
     same-length-8
     same-length-9
+    same-length-10
+    same-length-11
     returns-2)

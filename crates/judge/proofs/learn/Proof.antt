@@ -18,7 +18,7 @@ counted-requires : tie.Need-counted-requires
 counted-requires c κs = search needs
 
 returns : tie.Need-returns
-returns c = (λ q prices codes costs tb t. rw (c .counted .ensures) (learn-unkept t _ (c .before .before .if1 .taken)), c .before .before .before .before .before .before .before .before .before .before .pre .0 .planned)
+returns c = (λ q prices codes costs values tb t. rw (c .counted .ensures) (learn-unkept t _ (c .before .before .if1 .taken)), c .before .before .before .before .before .before .before .before .before .before .pre .0 .planned)
 
 values-requires : tie.Need-values-requires
 values-requires c κs = search needs
@@ -46,8 +46,8 @@ module _ (k : tie.After-reduce) where
   abbrev start : tie.Start
   start = k .before .before .before .before .before .before .before .before .before .before .before
 
-  module _ {q : Question} {prices codes costs : List ℕ} (tb : Tabled (q .plant) (start .args .d) (start .args .sizes .now) prices (start .args .counts .now) (start .args .lits .now))
-      (t : Removed q (start .args .limit) (start .args .queue .now) (start .args .store .now) codes costs (start .args .g) (start .args .node)) where
+  module _ {q : Question} {prices codes costs values : List ℕ} (tb : Tabled (q .plant) (start .args .d) (start .args .sizes .now) prices (start .args .counts .now) (start .args .lits .now))
+      (t : Removed q (start .args .limit) (start .args .queue .now) (start .args .store .now) codes costs values (start .args .g) (start .args .node)) where
     answered : Reduces (q .plant) (reduce (q .plant) (start .args .limit) (t .parent) (start .args .trials)) (k .reduce .result)
     answered = k .reduce .ensures .0 (q .plant) prices tb (t .parent) (k .before .values .ensures (q .plant) (t .parent) (t .is)) (t .is .valid)
 
@@ -69,7 +69,7 @@ counted-requires-3 c κs = start (reduced (c .before .before .before .before .be
 returns-2 : tie.Need-returns-2
 returns-2 c =
     let k = c .before .before .before .before in (
-      λ q prices codes costs tb t. rw (c .counted2 .ensures) (learn-spent t _ (k .before .before .before .if1 .left) _ (answered k tb t) _ (c .before .before .t .given .1)),
+      λ q prices codes costs values tb t. rw (c .counted2 .ensures) (learn-spent t _ (k .before .before .before .if1 .left) _ (answered k tb t) _ (c .before .before .t .given .1)),
       k .reduce .ensures .1,
     )
 
@@ -84,7 +84,7 @@ returns-3 c =
     let s = c .before .before .before .before .before .sieve in
     let a = c .before .before .before .before .before .before .before .before .before in
     let k = reduced a in (
-      λ q prices codes costs tb t.
+      λ q prices codes costs values tb t.
           rw (c .counted3 .ensures) (learn-conflict t _ (k .before .before .before .if1 .left) _ (answered k tb t) (a .before .before .before .mask .given .1) _ _ _ (s .kept .0) (a .append .ensures .0) (s .ensures)),
       k .reduce .ensures .1,
     )

@@ -15,21 +15,21 @@ first-requires : tie.Need-first-requires
 first-requires c κs = search needs
 
 root-requires : tie.Need-root-requires
-root-requires c κs = let b = c .before .before .before .before .before .before .before .before .before .before .pre .0 .tables .tabled in (tabled-few b, b .cost-room)
+root-requires c κs = let b = c .before .before .before .before .before .before .before .before .before .before .before .pre .0 .tables .tabled in (tabled-few b, b .cost-room)
 
 entry-of-requires : tie.Need-entry-of-requires
 entry-of-requires c κs = search needs
 
 push-requires : tie.Need-push-requires
-push-requires c κs = let start = c .before .before .before .before .before .before .before .before .before .before .before .before .before in omega (arith, start .pre .0 .room .queue-room)
+push-requires c κs = let start = c .before .before .before .before .before .before .before .before .before .before .before .before .before .before in omega (arith, start .pre .0 .room .queue-room)
 
 run-requires : tie.Need-run-requires
 run-requires c κs =
-    let pushed = c .before .before .before .before .before .before .before in
+    let pushed = c .before .before .before .before .before .before .before .before in
     let entered = pushed .before .before in
     let rooted = entered .before in
     let begun = rooted .before in
-    let start = begun .before .before .before .before .before .before .before .before .before .before in
+    let start = begun .before .before .before .before .before .before .before .before .before .before .before in
     let t = start .pre .0 in
     let o = orderOf (t .plant) in
     let node = rooted .root .ensures (t .plant) _ _ _ (t .tables .tabled) (t .tables .preferred-is) in
@@ -48,10 +48,13 @@ same-length-3 c = search needs
 same-length-4 : tie.Need-same-length-4
 same-length-4 c = search needs
 
+same-length-5 : tie.Need-same-length-5
+same-length-5 c = search needs
+
 returns : tie.Need-returns
 returns c t survivors s =
-    let ran = c .before .before .before .before .before .before .before .before in
-    let pushed = ran .before .before .before .before .before .before .before .before in
+    let ran = c .before .before .before .before .before .before .before .before .before .before in
+    let pushed = ran .before .before .before .before .before .before .before .before .before in
     let entered = pushed .before .before in
     let o = orderOf (t .plant) in
     let rooted = entered .before in
@@ -73,4 +76,5 @@ from-root-spec =
     same-length-2
     same-length-3
     same-length-4
+    same-length-5
     returns)

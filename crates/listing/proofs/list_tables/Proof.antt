@@ -18,12 +18,12 @@ slice-aggregate-prepare-2 c = search needs
 
 prepare-requires : tie.Need-prepare-requires
 prepare-requires c κs =
-    let l = tabled-limits (c .before .before .before .before .before .before .before .before .before .before .pre .0 .1) in
+    let l = tabled-limits (c .before .before .before .before .before .before .before .before .before .before .before .pre .0 .1) in
     (tables-more _ 48 _ _ (l .few) (l .tables), omega arith, omega arith, zero-at satWords, zero-at usesWords)
 
 preferred-requires : tie.Need-preferred-requires
 preferred-requires c κs =
-    let t = c .before .before .before .before .before .before .before .before .before .before .before .before .before .pre .0 .1 in
+    let t = c .before .before .before .before .before .before .before .before .before .before .before .before .before .before .pre .0 .1 in
     (tabled-few t, t .decisions, t .cost-room, rw (tabled-decisions t) at (tabled-sized t))
 
 slice-aggregate-listing : tie.Need-slice-aggregate-listing
@@ -31,18 +31,18 @@ slice-aggregate-listing c = search needs
 
 listing-requires : tie.Need-listing-requires
 listing-requires c κs =
-    let found = c .before .before .before .before .before .before .before in
+    let found = c .before .before .before .before .before .before .before .before in
     let sets = found .before .before .before in
-    let start = sets .before .before .before .before .before .before .before .before .before .before .before in
+    let start = sets .before .before .before .before .before .before .before .before .before .before .before .before in
     let t = start .pre .0 .1 in
     lists-of t (sets .prepare .ensures) plan-long (found .preferred .ensures _ _ _ t) (start .pre .1)
 
 finish-requires : tie.Need-finish-requires
 finish-requires c κs =
-    let ran = c .before .before .before .before .before .before .before .before .before .before in
-    let found = ran .before .before .before .before .before .before .before .before in
+    let ran = c .before .before .before .before .before .before .before .before .before .before .before .before in
+    let found = ran .before .before .before .before .before .before .before .before .before in
     let sets = found .before .before .before in
-    let start = sets .before .before .before .before .before .before .before .before .before .before .before in
+    let start = sets .before .before .before .before .before .before .before .before .before .before .before .before in
     let t = start .pre .0 .1 in
     finished-room (ran .listing .ensures (lists-of t (sets .prepare .ensures) plan-long (found .preferred .ensures _ _ _ t) (start .pre .1)))
 
@@ -58,16 +58,19 @@ same-length-3 c = search needs
 same-length-4 : tie.Need-same-length-4
 same-length-4 c = search needs
 
+same-length-5 : tie.Need-same-length-5
+same-length-5 c = search needs
+
 returns : tie.Need-returns
 returns c p t =
     let finished = c .before .before .before .before in
-    let ran = finished .before .before .before .before .before .before .before .before .before .before .before in
-    let found = ran .before .before .before .before .before .before .before .before in
+    let ran = finished .before .before .before .before .before .before .before .before .before .before .before .before .before in
+    let found = ran .before .before .before .before .before .before .before .before .before in
     let sets = found .before .before .before in
-    let start = sets .before .before .before .before .before .before .before .before .before .before .before in
+    let start = sets .before .before .before .before .before .before .before .before .before .before .before .before in
     let h = ran .listing .ensures (lists-of t (sets .prepare .ensures) plan-long (found .preferred .ensures p _ _ t) (start .pre .1)) in
-    let kept = ran .listing .kept .1 .1 .1 .1 .1 .1 .1 .1 .1 .1 .1 in
-    finished-called p (start .args .k) (start .args .held) (start .args .limit) _ _ _ _ h (kept .0) (kept .1 .0) (finished .finish .ensures)
+    let kept = ran .listing .kept .1 .1 .1 .1 .1 .1 .1 .1 .1 .1 .1 .1 in
+    finished-called p (start .args .k) (start .args .held) (start .args .limit) _ _ _ _ _ h (kept .0) (kept .1 .0) (finished .finish .ensures)
 
 pub list-tables-spec : {M : Type 1} → statement M
 list-tables-spec =
@@ -84,4 +87,5 @@ list-tables-spec =
     same-length-2
     same-length-3
     same-length-4
+    same-length-5
     returns)

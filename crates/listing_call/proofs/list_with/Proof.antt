@@ -21,9 +21,9 @@ unfit-requires c κs = search needs
 
 returns : tie.Need-returns
 returns c =
-    let s = c .before .before .before .before .before .before .before .args in
-    let b = buffers (s .codes .now) (s .costs .now) (s .queue .now) (s .store .now) in
-    host-refused (s .sheet .now) (s .k) b (s .held) (s .limit) (s .short) (c .before .unfit .ensures b refl refl refl refl) (c .if1 .taken)
+    let s = c .before .before .before .before .before .before .before .before .args in
+    let b = buffers (s .codes .now) (s .costs .now) (s .values .now) (s .queue .now) (s .store .now) in
+    host-refused (s .sheet .now) (s .k) b (s .held) (s .limit) (s .short) (c .before .unfit .ensures b refl refl refl refl refl) (c .if1 .taken)
 
 slice-aggregate-read : tie.Need-slice-aggregate-read
 slice-aggregate-read c = search needs
@@ -53,7 +53,7 @@ Read = lts.After-d (unfit-reads.Asked, unfit-reads.Learnt, read-reads.Asked, rea
 -- an accepted sheet's tables
 tables : (k : Read)
     → let r = k .before .before .before .before .before .before .read .last .1 in
-    Opened (k .before .before .before .before .before .before .before .before .before .before .before .before .before .before .before .before .before .before .args .sheet .now) (r .0) (r .1 .0) (r .1 .1 .0) (r .1 .1 .1 .0) (k .d .given .0 .0) (k .d .given .0 .1 .0) (k .d .given .0 .1 .1 .0)
+    Opened (k .before .before .before .before .before .before .before .before .before .before .before .before .before .before .before .before .before .before .before .args .sheet .now) (r .0) (r .1 .0) (r .1 .1 .0) (r .1 .1 .1 .0) (k .d .given .0 .0) (k .d .given .0 .1 .0) (k .d .given .0 .1 .1 .0)
 tables k =
     let r = k .before .before .before .before .before .before .read in
     opened _ _ _ _ _ _ (r .ensures) (k .d .given .1) (r .kept .1 .0) (r .kept .1 .1 .0) (r .kept .1 .1 .1 .0) (r .kept .1 .1 .1 .1 .0)
@@ -81,20 +81,20 @@ slice-aggregate-list-tables-4 c = search needs
 
 list-tables-requires : tie.Need-list-tables-requires
 list-tables-requires c κs =
-    let read = c .before .before .before .before .before .before .before .before .before in
+    let read = c .before .before .before .before .before .before .before .before .before .before in
     let fit = read .before .before .before .before .before .before .before .before .before .before .before in
-    let s = fit .before .before .before .before .before .before .before .args in
-    let b = buffers (s .codes .now) (s .costs .now) (s .queue .now) (s .store .now) in
+    let s = fit .before .before .before .before .before .before .before .before .args in
+    let b = buffers (s .codes .now) (s .costs .now) (s .values .now) (s .queue .now) (s .store .now) in
     let o = tables read in
-    ((o .plant, o .tabled), room-of (s .k) b (s .held) (s .short) (sym (fit .if1 .left) ∙ fit .before .unfit .ensures b refl refl refl refl))
+    ((o .plant, o .tabled), room-of (s .k) b (s .held) (s .short) (sym (fit .if1 .left) ∙ fit .before .unfit .ensures b refl refl refl refl refl))
 
 returns-2 : tie.Need-returns-2
 returns-2 c =
     let read = c .before .before .before .before .before .before .before in
     let fit = read .before .before .before .before .before in
-    let s = fit .before .before .before .before .before .before .before .args in
-    let b = buffers (s .codes .now) (s .costs .now) (s .queue .now) (s .store .now) in
-    author-refused (s .sheet .now) (s .k) b (s .held) (s .limit) (s .short) (sym (fit .if1 .left) ∙ fit .before .unfit .ensures b refl refl refl refl) (refused-by _ _ _ _ _ (c .before .n .given .1) (read .read .ensures .0))
+    let s = fit .before .before .before .before .before .before .before .before .args in
+    let b = buffers (s .codes .now) (s .costs .now) (s .values .now) (s .queue .now) (s .store .now) in
+    author-refused (s .sheet .now) (s .k) b (s .held) (s .limit) (s .short) (sym (fit .if1 .left) ∙ fit .before .unfit .ensures b refl refl refl refl refl) (refused-by _ _ _ _ _ (c .before .n .given .1) (read .read .ensures .0))
 
 same-length : tie.Need-same-length
 same-length c = search needs
@@ -108,15 +108,18 @@ same-length-3 c = search needs
 same-length-4 : tie.Need-same-length-4
 same-length-4 c = search needs
 
+same-length-5 : tie.Need-same-length-5
+same-length-5 c = search needs
+
 returns-3 : tie.Need-returns-3
 returns-3 c =
-    let listed = c .before .before .before .before .before .before .before .before in
-    let read = listed .before .before .before .before .before .before .before .before .before .before in
+    let listed = c .before .before .before .before .before .before .before .before .before .before in
+    let read = listed .before .before .before .before .before .before .before .before .before .before .before in
     let fit = read .before .before .before .before .before .before .before .before .before .before .before in
-    let s = fit .before .before .before .before .before .before .before .args in
-    let b = buffers (s .codes .now) (s .costs .now) (s .queue .now) (s .store .now) in
+    let s = fit .before .before .before .before .before .before .before .before .args in
+    let b = buffers (s .codes .now) (s .costs .now) (s .values .now) (s .queue .now) (s .store .now) in
     let o = tables read in
-    sheet-called (s .sheet .now) (s .k) b (s .held) (s .limit) (s .short) (sym (fit .if1 .left) ∙ fit .before .unfit .ensures b refl refl refl refl) (o .read) (listed .list-tables .ensures (o .plant) (o .tabled))
+    sheet-called (s .sheet .now) (s .k) b (s .held) (s .limit) (s .short) (sym (fit .if1 .left) ∙ fit .before .unfit .ensures b refl refl refl refl refl) (o .read) (listed .list-tables .ensures (o .plant) (o .tabled))
 
 pub list-with-spec : {M : Type 1} → statement M
 list-with-spec =
@@ -144,4 +147,5 @@ list-with-spec =
     same-length-2
     same-length-3
     same-length-4
+    same-length-5
     returns-3)

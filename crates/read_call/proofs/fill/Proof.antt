@@ -3,7 +3,7 @@ use mathlib.Core.Path.{sym}
 use native.Mathlib.Omega.{arith}
 use borrow.Author.Needs.{needs}
 use lib.Seq.{length-take-le}
-use Rattle.read_call.proofs.Rows.{front}
+use Rattle.theory.proofs.Puts.{puts-front}
 use Rattle.read_call.proofs.fill.Statement.{statement}
 use Rattle.read_call.proofs.fill.Tie as tie
 
@@ -17,7 +17,7 @@ same-length : tie.Need-same-length
 same-length c = search needs
 
 returns : tie.Need-returns
-returns c = front (c .before .before .put-bytes .ensures)
+returns c = puts-front (c .before .before .put-bytes .ensures)
 
 pub fill-spec : {M : Type 1} → statement M
 fill-spec = tie.close (tie.spec slice-aggregate-put-bytes put-bytes-requires same-length returns)

@@ -9,6 +9,9 @@ mixed-all-u64-requires c κs = search needs
 mixed-all-u32-requires : tie.Need-mixed-all-u32-requires
 mixed-all-u32-requires c κs = search needs
 
+mixed-all-requires : tie.Need-mixed-all-requires
+mixed-all-requires c κs = search needs
+
 mixed-all-u64-requires-2 : tie.Need-mixed-all-u64-requires-2
 mixed-all-u64-requires-2 c κs = search needs
 
@@ -24,6 +27,7 @@ checksum-spec =
     (tie.spec
     mixed-all-u64-requires
     mixed-all-u32-requires
+    mixed-all-requires
     mixed-all-u64-requires-2
     mixed-all-u64-requires-3
     returns)

@@ -11,6 +11,12 @@ read-u16-requires c κs = search needs
 read-u16-requires-2 : tie.Need-read-u16-requires-2
 read-u16-requires-2 c κs = search needs
 
+read-u32-requires : tie.Need-read-u32-requires
+read-u32-requires c κs = search needs
+
+at-most-room-requires : tie.Need-at-most-room-requires
+at-most-room-requires c κs = search needs
+
 read-u16-requires-3 : tie.Need-read-u16-requires-3
 read-u16-requires-3 c κs = search needs
 
@@ -20,8 +26,8 @@ read-u16-requires-4 c κs = search needs
 read-u16-requires-5 : tie.Need-read-u16-requires-5
 read-u16-requires-5 c κs = search needs
 
-read-u32-requires : tie.Need-read-u32-requires
-read-u32-requires c κs = search needs
+read-u32-requires-2 : tie.Need-read-u32-requires-2
+read-u32-requires-2 c κs = search needs
 
 read-u16-requires-6 : tie.Need-read-u16-requires-6
 read-u16-requires-6 c κs = search needs
@@ -62,17 +68,23 @@ array-borrow-prefix-costs c = search needs
 slice-aggregate-answer-2 : tie.Need-slice-aggregate-answer-2
 slice-aggregate-answer-2 c = rw length-take (omega arith)
 
-array-borrow-prefix-queue : tie.Need-array-borrow-prefix-queue
-array-borrow-prefix-queue c = search needs
+array-borrow-prefix-values : tie.Need-array-borrow-prefix-values
+array-borrow-prefix-values c = search needs
 
 slice-aggregate-answer-3 : tie.Need-slice-aggregate-answer-3
 slice-aggregate-answer-3 c = rw length-take (omega arith)
 
-array-borrow-prefix-store : tie.Need-array-borrow-prefix-store
-array-borrow-prefix-store c = search needs
+array-borrow-prefix-queue : tie.Need-array-borrow-prefix-queue
+array-borrow-prefix-queue c = search needs
 
 slice-aggregate-answer-4 : tie.Need-slice-aggregate-answer-4
 slice-aggregate-answer-4 c = rw length-take (omega arith)
+
+array-borrow-prefix-store : tie.Need-array-borrow-prefix-store
+array-borrow-prefix-store c = search needs
+
+slice-aggregate-answer-5 : tie.Need-slice-aggregate-answer-5
+slice-aggregate-answer-5 c = rw length-take (omega arith)
 
 answer-requires : tie.Need-answer-requires
 answer-requires c κs = search needs
@@ -86,10 +98,12 @@ replay-on-spec =
     (tie.spec
     read-u16-requires
     read-u16-requires-2
+    read-u32-requires
+    at-most-room-requires
     read-u16-requires-3
     read-u16-requires-4
     read-u16-requires-5
-    read-u32-requires
+    read-u32-requires-2
     read-u16-requires-6
     slice-aggregate-fill
     fill-requires
@@ -103,9 +117,11 @@ replay-on-spec =
     slice-aggregate-answer
     array-borrow-prefix-costs
     slice-aggregate-answer-2
-    array-borrow-prefix-queue
+    array-borrow-prefix-values
     slice-aggregate-answer-3
-    array-borrow-prefix-store
+    array-borrow-prefix-queue
     slice-aggregate-answer-4
+    array-borrow-prefix-store
+    slice-aggregate-answer-5
     answer-requires
     returns)
