@@ -74,10 +74,10 @@ hosts =
     -- codes shorter than k, and costs
     ∷ lengths small 16 15 16 8 8 0 gives refusal (byHost 2)
     ∷ lengths small 16 16 15 8 8 0 gives refusal (byHost 2)
-    -- the values a byte shorter than 48 times k, of one state, of sixteen and of the most, and none at all
+    -- the values a byte shorter than 48 times k, of one state, of five and of sixteen, and none at all
     ∷ valuesOf 47 (lengths small 1 1 1 8 8 0) gives refusal (byHost 19)
+    ∷ valuesOf 239 (lengths small 5 5 5 8 8 0) gives refusal (byHost 19)
     ∷ valuesOf 767 (lengths small 16 16 16 8 8 0) gives refusal (byHost 19)
-    ∷ valuesOf 196607 (lengths small 4096 4096 4096 8 8 0) gives refusal (byHost 19)
     ∷ valuesOf 0 (lengths small 1 1 1 8 8 0) gives refusal (byHost 19)
     -- the queue odd, below 2 and above 8,192 words
     ∷ lengths small 16 16 16 7 8 0 gives refusal (byHost 3)
