@@ -6,6 +6,7 @@
  * junk once and then lent again as the last run left them: they are never
  * cleared, and the memory is warm. */
 #define _POSIX_C_SOURCE 199309L
+#include "conflicts.h"
 #include "implementations.h"
 #include "lent.h"
 
@@ -187,30 +188,25 @@ static void table_of_queues(void)
     }
 }
 
-/* One of 5,040 conflicts of the plant store-4096 with members 0 to 6 and 15:
- * one of 4, 5 and 6 has its forbidden last value, the two others any other; 0
- * to 3 have value 0, and 15 any. */
-static void make_conflict(uint32_t number, uint64_t *entry)
-{
-    uint32_t rest = number / 16, at[3];
-    if (rest < 45) {
-        at[0] = 15, at[1] = rest / 3, at[2] = rest % 3;
-    } else if (rest < 90) {
-        at[0] = (rest - 45) / 3, at[1] = 15, at[2] = rest % 3;
-    } else {
-        at[0] = (rest - 90) / 15, at[1] = rest % 15, at[2] = 3;
-    }
-    entry[0] = UINT64_C(0xfe01) << 48;
-    entry[1] = number % 16;
-    for (int i = 0; i < 3; i++)
-        entry[1] |= (uint64_t)at[i] << (60 - 4 * (4 + i));
-}
-
 /* Offers so many conflicts, in no order; all survive, so the store stays. */
 static void offer_conflicts(uint32_t count)
 {
     for (uint32_t i = 0; i < count; i++)
         make_conflict(i * 1009 % 5040, &lent.store[2 * i]);
+}
+
+/* The same with each thirteenth without its last member, so that it is contained
+ * in up to fifteen others, which come before it and behind it. */
+static void make_shortened(uint32_t count, uint64_t *entries)
+{
+    for (uint32_t i = 0; i < count; i++) {
+        uint32_t number = i * 1009 % 5040;
+        make_conflict(number, &entries[2 * i]);
+        if (number % 13)
+            continue;
+        entries[2 * i] ^= UINT64_C(1) << 48;
+        entries[2 * i + 1] &= ~UINT64_C(15);
+    }
 }
 
 static void table_of_stores(void)
@@ -274,6 +270,33 @@ static void label_run(const struct job *jobs, const char *name, char *label)
              first[5]);
 }
 
+/* The run's row, under this name. */
+static struct figures time_whole(const struct whole *w, const char *name)
+{
+    struct job jobs[IMPLEMENTATIONS];
+    struct job job = {NULL, sheet_named(w->name), w->settings, 4096, w->store, 0, 0};
+    struct samples s;
+    char label[64];
+    for_each(jobs, job);
+    label_run(jobs, name, label);
+    take_samples(jobs, IMPLEMENTATIONS, &s);
+    struct figures f = figures_of(&s, 0, -1, 1e6);
+    row(label, &f);
+    free(job.sheet.at);
+    return f;
+}
+
+/* 4,096 offered, most of which are dropped or pushed out. */
+static void time_pushing(void)
+{
+    static const struct whole pushing = {"store-4096", {64, 4096, 1000000}, 4096};
+    static uint64_t shortened[2 * 4096];
+    make_shortened(4096, shortened);
+    offered = shortened;
+    time_whole(&pushing, "store-4096 pushed");
+    offered = NULL;
+}
+
 static void table_of_runs(void)
 {
     struct figures total = {{0}, 0, 0, 0};
@@ -281,15 +304,8 @@ static void table_of_runs(void)
     heading("(d) Whole runs: sheet, ending, listed (trials)", "run", "us");
     for (size_t i = 0; i < sizeof WHOLE / sizeof *WHOLE; i++) {
         const struct whole *w = &WHOLE[i];
-        struct job jobs[IMPLEMENTATIONS];
-        struct job job = {NULL, sheet_named(w->name), w->settings, 4096, w->store, 0, 0};
-        struct samples s;
-        char label[64];
-        for_each(jobs, job);
         offer_conflicts((uint32_t)w->settings.held);
-        label_run(jobs, w->name, label);
-        take_samples(jobs, IMPLEMENTATIONS, &s);
-        struct figures f = figures_of(&s, 0, -1, 1e6);
+        struct figures f = time_whole(w, w->name);
         if (strncmp(w->name, "driveline", 9) == 0) {
             for (int k = 0; k < IMPLEMENTATIONS; k++)
                 total.value[k] += f.value[k];
@@ -298,15 +314,38 @@ static void table_of_runs(void)
             if (f.ours_same > most)
                 most = f.ours_same;
         }
-        row(label, &f);
-        free(job.sheet.at);
     }
+    time_pushing();
     total.plain_ours = total.value[PLAIN] / total.value[OURS];
     total.ours_same = total.value[OURS] / total.value[SAME];
     total.plain_same = total.value[PLAIN] / total.value[SAME];
     row("all drivelines", &total);
     if (most > 0)
         printf("drivelines: plain/ours at least %.2f, ours/same at most %.2f\n", least, most);
+}
+
+/* ---- (g) step 1 ---- */
+
+/* A queue of one entry is full right after step 1, so that a run is its tests and
+ * the comparisons of what they find. */
+static void table_of_offers(void)
+{
+    static const uint32_t counts[] = {512, 1024, 2048, 4096};
+    struct job jobs[IMPLEMENTATIONS];
+    struct job job = {NULL, sheet_named("store-4096"), {1, 0, 1000000}, 1, 4096, 0, 0};
+    heading("(g) Step 1: conflicts offered, of which none contains another", "offered", "us");
+    for (size_t i = 0; i < sizeof counts / sizeof *counts; i++) {
+        struct samples s;
+        char label[64];
+        job.settings.held = counts[i];
+        offer_conflicts(counts[i]);
+        for_each(jobs, job);
+        snprintf(label, sizeof label, "%" PRIu32, counts[i]);
+        take_samples(jobs, IMPLEMENTATIONS, &s);
+        struct figures f = figures_of(&s, 0, -1, 1e6);
+        row(label, &f);
+    }
+    free(job.sheet.at);
 }
 
 /* ---- (e) a learned conflict ---- */
@@ -363,5 +402,6 @@ int main(int count, char **words)
     table_of_stores();
     table_of_runs();
     table_of_learning();
+    table_of_offers();
     return 0;
 }

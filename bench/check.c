@@ -385,21 +385,61 @@ static void check_short_buffers(const char *path, struct bytes sheet)
     check_refused(path, sheet, settings, &lengths, 3);
 }
 
-/* The corpus's own run, then shorter limits, queues and stores, then a run
- * that is offered what the first learned. On long sheets plain is slow: they
- * get a tenth of the trials. */
+enum { STORED_MOST = 64 };
+
+/* How many conflicts with members are stored: zeros follow them. */
+static size_t count_stored(const uint64_t *store)
+{
+    size_t count = 0;
+    while (count < STORED_MOST && store[2 * count])
+        count++;
+    return count;
+}
+
+/* The assignment of this mask with the first unassigned variable at 0 as well:
+ * not well formed where all were assigned. */
+static uint64_t with_one_more(uint64_t mask)
+{
+    uint64_t member = UINT64_C(1) << 63;
+    while (mask & member)
+        member >>= 1;
+    return mask | member;
+}
+
+/* Offers each conflict twice and one with a member more, this one first, between
+ * them or last, and each fourth only with a member more, which the run may learn
+ * without it; how many are offered. */
+static size_t offer_longer(const uint64_t *conflicts, size_t count, uint64_t *offered)
+{
+    size_t held = 0;
+    for (size_t i = 0; i < count && 3 * i + 3 <= STORED_MOST; i++)
+        for (size_t k = 0; k < 3; k++, held++) {
+            uint64_t mask = conflicts[2 * i];
+            bool more = k == i % 4 || i % 4 == 3;
+            offered[2 * held] = more ? with_one_more(mask) : mask;
+            offered[2 * held + 1] = conflicts[2 * i + 1];
+        }
+    return held;
+}
+
+/* The corpus's own run, then shorter limits, queues and stores, then runs that
+ * are offered what the first stored, alone and among longer ones. On long sheets
+ * plain is slow: they get a tenth of the trials. */
 static void check_runs(const char *path, struct bytes sheet)
 {
-    static uint64_t learned[2 * 64];
+    static uint64_t stored[2 * STORED_MOST], longer[2 * STORED_MOST];
     uint32_t most = sheet.length < 1000 ? 1000000 : 100000, some = most / 5;
     check_run(path, sheet, (struct settings){16, 0, most}, 4096, 64, NULL);
-    uint32_t trials = first_lent.result[5], kept = first_lent.result[3];
-    memcpy(learned, first_lent.store, sizeof learned);
+    uint32_t trials = first_lent.result[5];
+    memcpy(stored, first_lent.store, sizeof stored);
+    size_t kept = count_stored(stored), held = offer_longer(stored, kept, longer);
     check_run(path, sheet, (struct settings){1, 0, some}, 4096, 64, NULL);
     check_run(path, sheet, (struct settings){400, 0, some}, 4096, 64, NULL);
     check_run(path, sheet, (struct settings){16, 0, some}, 4096, 0, NULL);
     check_run(path, sheet, (struct settings){16, 0, some}, 12, 64, NULL);
-    check_run(path, sheet, (struct settings){16, kept, some}, 4096, 64, learned);
+    check_run(path, sheet, (struct settings){16, kept, some}, 4096, 64, stored);
+    check_run(path, sheet, (struct settings){16, held, some}, 4096, 64, longer);
+    check_run(path, sheet, (struct settings){16, held, some / 100}, 4096, held, longer);
     check_run(path, sheet, (struct settings){16, 0, trials / 2}, 4096, 3, NULL);
     check_run(path, sheet, (struct settings){16, 0, trials ? trials - 1 : 0}, 4096, 64, NULL);
 }

@@ -69,14 +69,20 @@ static bool comes_before(const struct node *a, const struct node *b)
     return a->cost < b->cost || (a->cost == b->cost && a->code < b->code);
 }
 
+static bool contains(const struct plant *p, uint64_t mask, uint64_t values,
+                     const uint64_t *conflict)
+{
+    for (unsigned v = 0; v < p->decisions; v++)
+        if (assigned(conflict[0], v)
+            && !(assigned(mask, v) && value_of(values, v) == value_of(conflict[1], v)))
+            return false;
+    return true;
+}
+
 static bool manifests(const struct plant *p, const struct node *n, const uint64_t *conflict)
 {
     COUNT(counted_looks);
-    for (unsigned v = 0; v < p->decisions; v++)
-        if (assigned(conflict[0], v)
-            && !(assigned(n->mask, v) && value_of(n->values, v) == value_of(conflict[1], v)))
-            return false;
-    return true;
+    return contains(p, n->mask, n->values, conflict);
 }
 
 static bool resolves(const struct plant *p, const struct node *n, const uint64_t *conflict)
@@ -106,8 +112,9 @@ static const uint64_t *first_unresolved(const struct run *r, const struct node *
     return NULL;
 }
 
-/* Step 1: SPENT, or CONSISTENT where all offered entries have been checked. */
-static enum answer check_offered(struct run *r, size_t held)
+/* The offered entries found inconsistent, in order: SPENT, or CONSISTENT where
+ * all have been checked. */
+static enum answer find_inconsistent(struct run *r, size_t held)
 {
     for (size_t i = 0; i < held; i++) {
         uint64_t mask = r->store[2 * i], values = r->store[2 * i + 1];
@@ -124,6 +131,40 @@ static enum answer check_offered(struct run *r, size_t held)
         }
     }
     return CONSISTENT;
+}
+
+static bool is_equal(const uint64_t *a, const uint64_t *b)
+{
+    return a[0] == b[0] && a[1] == b[1];
+}
+
+/* Whether the entry at place i contains one of those kept before it, or one
+ * behind it that is not its equal: of equal ones the first remains. Those that
+ * are gone need no look: what contains one of them contains what it contained. */
+static bool contains_another(const struct run *r, size_t i, size_t kept)
+{
+    const uint64_t *own = &r->store[2 * i];
+    for (size_t j = 0; j < kept; j++)
+        if (contains(&r->plant, own[0], own[1], &r->store[2 * j]))
+            return true;
+    for (size_t j = i + 1; j < r->stored; j++)
+        if (contains(&r->plant, own[0], own[1], &r->store[2 * j])
+            && !is_equal(own, &r->store[2 * j]))
+            return true;
+    return false;
+}
+
+/* Step 1. Where the limit strikes, among those checked so far too none contains
+ * another. */
+static enum answer check_offered(struct run *r, size_t held)
+{
+    enum answer answer = find_inconsistent(r, held);
+    size_t kept = 0;
+    for (size_t i = 0; i < r->stored; i++)
+        if (!contains_another(r, i, kept))
+            memmove(&r->store[2 * kept++], &r->store[2 * i], 2 * sizeof *r->store);
+    r->stored = kept;
+    return answer;
 }
 
 static struct node remove_first(struct run *r)
@@ -201,12 +242,27 @@ static void remove_manifesting(struct run *r, const uint64_t *conflict)
     r->queued = kept;
 }
 
+static void remove_containing(struct run *r, const uint64_t *conflict)
+{
+    size_t kept = 0;
+    for (size_t i = 0; i < r->stored; i++) {
+        uint64_t mask = r->store[2 * i], values = r->store[2 * i + 1];
+        if (contains(&r->plant, mask, values, conflict))
+            continue;
+        r->store[2 * kept] = mask;
+        r->store[2 * kept + 1] = values;
+        kept++;
+    }
+    r->stored = kept;
+}
+
 /* Step 7 on an inconsistent full node, the store not full. */
 static enum ending learn(struct run *r, const struct node *n)
 {
     uint64_t conflict[2] = {n->mask, n->values};
     if (reduce(&r->plant, &conflict[0], &conflict[1], &r->meter) == SPENT)
         return OUT_OF_TRIALS;
+    remove_containing(r, conflict);
     memcpy(&r->store[2 * r->stored++], conflict, sizeof conflict);
     r->learned++;
     remove_manifesting(r, conflict);

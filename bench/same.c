@@ -26,14 +26,9 @@ struct run {
     uint32_t k, listed, tested, learned, unkept;
 };
 
-/* To the end, without a branch for each entry. */
 static bool manifests_a_stored(const struct run *r, struct entry e)
 {
-    uint64_t wide = widen(mask_of(e));
-    bool any = false;
-    for (size_t i = 0; i < r->stored; i++)
-        any |= manifests(e.code, wide, &r->store[2 * i]);
-    return any;
+    return manifests_any(e.code, widen(mask_of(e)), r->store, r->stored);
 }
 
 /* The place of the first stored conflict that is not resolved, or `stored`. */
@@ -116,16 +111,15 @@ static enum ending put_branching(struct run *r, struct entry e)
     return put_values(r, e, (size_t)__builtin_clzll(~mask_of(e)), VALUES_MOST);
 }
 
-/* Step 7 on an inconsistent full node, the store not full. */
+/* Step 7 on an inconsistent full node, the store not full. The node resolved
+ * every stored conflict, so the learned one contains none. */
 static enum ending learn(struct run *r, struct entry e)
 {
-    uint64_t *conflict = &r->store[2 * r->stored];
     uint64_t mask = mask_of(e), values = e.code;
     if (reduce(&r->search, &mask, &values) == SPENT)
         return OUT_OF_TRIALS;
-    conflict[0] = widen(mask);
-    conflict[1] = values & conflict[0];
-    r->stored++;
+    const uint64_t conflict[2] = {widen(mask), values & widen(mask)};
+    r->stored = push_out(r->store, r->stored, 0, conflict);
     r->learned++;
     r->queued = sieve(r->queue, r->queued, conflict);
     return GOING_ON;
@@ -174,11 +168,9 @@ static bool check_offered(struct run *r, size_t held)
         enum answer answer = test(&r->search, mask, values);
         if (answer == SPENT)
             return false;
-        if (answer == CONSISTENT)
-            continue;
-        r->store[2 * r->stored] = widen(mask);
-        r->store[2 * r->stored + 1] = values;
-        r->stored++;
+        const uint64_t conflict[2] = {widen(mask), values};
+        if (answer == INCONSISTENT)
+            r->stored = admit(r->store, r->stored, conflict);
     }
     return true;
 }

@@ -86,7 +86,81 @@ static void rebuild(uint64_t *queue, size_t n)
  * at unassigned variables never counts: the masks see to it. */
 static bool manifests(uint64_t code, uint64_t wide, const uint64_t *conflict)
 {
-    return !((conflict[0] & ~wide) | ((code ^ conflict[1]) & conflict[0]));
+    return !(((code ^ conflict[1]) | ~wide) & conflict[0]);
+}
+
+/* A scan goes by so many entries at a time, written out by the compiler: a loop's
+ * own steps cost as much as a look. */
+enum { BLOCK = 8 };
+
+/* Whether one of n entries is manifested. */
+static bool manifests_one(uint64_t code, uint64_t wide, const uint64_t *store, size_t n)
+{
+    for (size_t i = 0; i < n; i++)
+        if (manifests(code, wide, &store[2 * i]))
+            return true;
+    return false;
+}
+
+/* The same, for many. */
+static bool manifests_any(uint64_t code, uint64_t wide, const uint64_t *store, size_t n)
+{
+    for (; n >= BLOCK; n -= BLOCK, store += 2 * BLOCK)
+        if (manifests_one(code, wide, store, BLOCK))
+            return true;
+    return manifests_one(code, wide, store, n);
+}
+
+/* Whether one of two entries contains the other. */
+static bool related(const uint64_t *a, const uint64_t *b)
+{
+    uint64_t apart = (a[0] ^ b[0]) | (a[1] ^ b[1]);
+    return !(apart & a[0]) || !(apart & b[0]);
+}
+
+/* The place of the first of n entries related to the conflict, or n. */
+static size_t first_in(const uint64_t *store, size_t n, const uint64_t *conflict)
+{
+    size_t i = 0;
+    while (i < n && !related(conflict, &store[2 * i]))
+        i++;
+    return i;
+}
+
+/* The same, for many. */
+static size_t first_related(const uint64_t *store, size_t n, const uint64_t *conflict)
+{
+    size_t i = 0;
+    while (n - i >= BLOCK && first_in(&store[2 * i], BLOCK, conflict) == BLOCK)
+        i += BLOCK;
+    return i + first_in(&store[2 * i], n - i, conflict);
+}
+
+/* Of n entries removes those from place i on that contain the conflict, and puts
+ * it behind the others; how many there are then. */
+static size_t push_out(uint64_t *store, size_t n, size_t i, const uint64_t *conflict)
+{
+    size_t left = i;
+    for (; i < n; i++) {
+        if (manifests(store[2 * i + 1], store[2 * i], conflict))
+            continue;
+        store[2 * left] = store[2 * i];
+        store[2 * left + 1] = store[2 * i + 1];
+        left++;
+    }
+    store[2 * left] = conflict[0];
+    store[2 * left + 1] = conflict[1];
+    return left + 1;
+}
+
+/* The same, unless the conflict contains an entry. No entry contains another, so
+ * the first related one says which of the two it is. */
+static size_t admit(uint64_t *store, size_t n, const uint64_t *conflict)
+{
+    size_t i = first_related(store, n, conflict);
+    if (i < n && manifests(conflict[1], conflict[0], &store[2 * i]))
+        return n;
+    return push_out(store, n, i, conflict);
 }
 
 static bool resolves(uint64_t code, uint64_t wide, const uint64_t *conflict)

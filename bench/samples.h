@@ -11,10 +11,15 @@ struct job {
     uint64_t mask, values;
 };
 
+/* Offered anew before each run; NULL where the store stays as a run leaves it. */
+static const uint64_t *offered;
+
 static void run(const struct job *j)
 {
     const struct bytes sheet = j->sheet;
     uint32_t refusal;
+    if (offered)
+        memcpy(lent.store, offered, 2 * j->settings.held * sizeof *offered);
     if (j->settings.k) {
         lent.codes_len = lent.costs_len = j->settings.k;
         lent.values_len = STATE_BYTES * lent.codes_len;

@@ -198,31 +198,44 @@ static const struct refused_sheet {
 
 #define OFFERS_MOST 2
 
-/* Two runs, the second with what leading_held() says of the first: that number, and
- * the second's result words. On the empty clause's sheet no state fits, and the
- * conflict that is learned has mask 0. */
+/* Two runs, the second with what leading_held() says of the first: the words that the
+ * first leaves in the store, behind which are zeros, that number, and the second's
+ * result words. On the empty clause's sheet no state fits, and the conflict that is
+ * learned has mask 0. */
 static const struct offered {
     const char *name;
     struct given given;
     uint64_t offers[LEADING_STORE_WORDS(OFFERS_MOST)];
     size_t offered, entries;
     uint32_t limit;
+    uint64_t left[LEADING_STORE_WORDS(OFFERS_MOST)];
     size_t held;
     uint32_t result[LEADING_RESULT_WORDS];
 } offered_runs[] = {
-    {"held", AS_IT_IS, {0}, 0, 64, 1000000, 1, {2, 3, 3, 0, 0, 5}},
-    {"held, limit 5", AS_IT_IS, {0}, 0, 64, 5, 0, {2, 3, 4, 1, 0, 15}},
-    {"held, store of 1", AS_IT_IS, {0}, 0, 1, 1000000, 1, {2, 3, 3, 0, 0, 5}},
-    {"held, mask 0 is no conflict", AS_IT_IS, {0, 0}, 1, 64, 1000000, 1, {2, 3, 3, 0, 0, 5}},
-    {"held, none fits", EMPTY_CLAUSE, {0}, 0, 64, 1000000, 1, {2, 0, 0, 0, 0, 0}},
-    {"held, none fits, mask 0", EMPTY_CLAUSE, {0, 0}, 1, 64, 1000000, 1, {2, 0, 0, 0, 0, 0}},
-    {"held, none fits, one offer", EMPTY_CLAUSE, {SELECTOR, ZERO}, 1, 64, 1000000, 2,
+    {"held", AS_IT_IS, {0}, 0, 64, 1000000, {BOTH, ZERO}, 1, {2, 3, 3, 0, 0, 5}},
+    {"held, limit 5", AS_IT_IS, {0}, 0, 64, 5, {0}, 0, {2, 3, 4, 1, 0, 15}},
+    {"held, store of 1", AS_IT_IS, {0}, 0, 1, 1000000, {BOTH, ZERO}, 1, {2, 3, 3, 0, 0, 5}},
+    {"held, mask 0 is no conflict", AS_IT_IS, {0, 0}, 1, 64, 1000000, {BOTH, ZERO}, 1,
+     {2, 3, 3, 0, 0, 5}},
+    {"held, none fits", EMPTY_CLAUSE, {0}, 0, 64, 1000000, {0}, 1, {2, 0, 0, 0, 0, 0}},
+    {"held, none fits, mask 0", EMPTY_CLAUSE, {0, 0}, 1, 64, 1000000, {0}, 1, {2, 0, 0, 0, 0, 0}},
+    {"held, none fits, one offer", EMPTY_CLAUSE, {SELECTOR, ZERO}, 1, 64, 1000000, {0}, 1,
      {2, 0, 0, 0, 0, 0}},
-    {"held, none fits, all offered", EMPTY_CLAUSE, {SELECTOR, ZERO, SELECTOR, ONE}, 2, 64,
-     1000000, 3, {2, 0, 0, 0, 0, 0}},
-    {"held, none fits, store of 1", EMPTY_CLAUSE, {SELECTOR, ZERO}, 1, 1, 1000000, 1,
-     {2, 0, 2, 0, 2, 0}},
-    {"held, none fits, no store", EMPTY_CLAUSE, {0}, 0, 0, 1000000, 0, {2, 0, 4, 0, 4, 0}},
+    {"held, none fits, all offered", EMPTY_CLAUSE, {SELECTOR, ZERO, SELECTOR, ONE}, 2, 64, 1000000,
+     {SELECTOR, ZERO, SELECTOR, ONE}, 2, {2, 0, 0, 0, 0, 0}},
+    {"held, none fits, store of 1", EMPTY_CLAUSE, {SELECTOR, ZERO}, 1, 1, 1000000, {SELECTOR, ZERO},
+     1, {2, 0, 2, 0, 2, 0}},
+    {"held, none fits, no store", EMPTY_CLAUSE, {0}, 0, 0, 1000000, {0}, 0, {2, 0, 4, 0, 4, 0}},
+    {"equal offers", AS_IT_IS, {BOTH, ZERO, BOTH, ZERO}, 2, 64, 1000000, {BOTH, ZERO}, 1,
+     {2, 3, 3, 0, 0, 5}},
+    {"the longer offer first", NEVER_ONE, {BOTH, BOTH_ONE, SELECTOR, ONE}, 2, 64, 1000000,
+     {SELECTOR, ONE}, 1, {2, 2, 2, 0, 0, 3}},
+    {"the longer offer last", NEVER_ONE, {SELECTOR, ONE, BOTH, BOTH_ONE}, 2, 64, 1000000,
+     {SELECTOR, ONE}, 1, {2, 2, 2, 0, 0, 3}},
+    {"pushed out by a learned one", NEVER_ONE, {BOTH, BOTH_ONE}, 1, 64, 1000000, {SELECTOR, ONE}, 1,
+     {2, 2, 2, 0, 0, 3}},
+    {"a full store pushes nothing out", NEVER_ONE, {BOTH, BOTH_ONE}, 1, 1, 1000000,
+     {BOTH, BOTH_ONE}, 1, {2, 2, 3, 0, 1, 3}},
 };
 
 enum call { TEST, REDUCE, CALLS };
@@ -413,6 +426,13 @@ static void test_run(const struct run *r)
     expect_work(r->name, r);
 }
 
+static void expect_left(const char *name, const uint64_t *left, size_t store)
+{
+    size_t words = LEADING_STORE_WORDS(OFFERS_MOST) < store ? LEADING_STORE_WORDS(OFFERS_MOST) : store;
+    expect(!memcmp(now.store + 1, left, words * sizeof *left), name, "the store's entries");
+    expect(all64(now.store, words + 1, store + 1, 0), name, "the store behind them");
+}
+
 static void test_offered(const struct offered *o)
 {
     struct counts counts = usual;
@@ -421,6 +441,7 @@ static void test_offered(const struct offered *o)
     give(&o->given);
     memcpy(now.store + 1, o->offers, LEADING_STORE_WORDS(o->offered) * sizeof *o->offers);
     expect(call(&counts, o->given.length, o->limit) == LEADING_OK, o->name, "refused");
+    expect_left(o->name, o->left, counts.store);
     counts.held = leading_held(now.store + 1, counts.store, now.result + 1);
     expect(counts.held == o->held, o->name, "another number");
     expect(call(&counts, o->given.length, 1000000) == LEADING_OK, o->name, "refused again");

@@ -108,9 +108,9 @@ extern "C" {
 /* Of this interface. MAJOR rises with a change that breaks callers, MINOR with
  * one that adds to it, or after which an answer says more. */
 #define LEADING_VERSION_MAJOR 1
-#define LEADING_VERSION_MINOR 0
+#define LEADING_VERSION_MINOR 1
 #define LEADING_VERSION_PATCH 0
-#define LEADING_VERSION "1.0.0"
+#define LEADING_VERSION "1.1.0"
 
 /* The three in one number, for #if and for leading_version(). */
 #define LEADING_VERSION_NUMBER                                       \
@@ -461,11 +461,17 @@ uint32_t leading_version(void);
  *     are conflicts offered, as those of an earlier run; the words behind them
  *     may be anything. Each offer is tested on this sheet, and dropped if it is
  *     not well formed or no conflict here, so a wrong offer costs trials and
- *     never makes the list wrong. After: the offers that passed, closed up, in
- *     their order; then the LEADING_LEARNED conflicts of this run; then zeros.
- *     Where the limit strikes while offers are tested, those not yet passed are
- *     gone. leading_held() says how many entries to offer to the next run. An
- *     offer with mask 0 (no state fits at all) comes last.
+ *     never makes the list wrong. Short reasons push out long ones: of the offers
+ *     that passed one that contains another is dropped, and of equal ones the
+ *     first remains; a conflict that is learned pushes out those that contain it.
+ *     After: the offers that passed and were not pushed out, closed up, in their
+ *     order; then the LEADING_LEARNED conflicts of this run, none of which is ever
+ *     pushed out; then zeros. No entry contains another, and unless the run ended
+ *     LEADING_SPENT each offer that is a conflict contains an entry, or is one, so
+ *     that nothing is forgotten by it. That is proved. Where the limit strikes
+ *     while offers are tested, those not yet passed are gone. leading_held() says
+ *     how many entries to offer to the next run. A conflict with mask 0 (no state
+ *     fits at all) is contained in every other and stands alone.
  * result, result_len
  *     Out: the six words of enum leading_result. Before: anything. After: words
  *     behind the six unchanged.
@@ -497,11 +503,11 @@ uint32_t leading_list(const uint8_t *sheet, size_t sheet_len,
  * that was not refused, with its store and its result words. Every conflict that
  * the run left in the store is among them.
  *
- * Entries are counted up to the last whose mask is not 0. An entry of zeros
- * behind it may be the conflict with mask 0: it is one where the run ended
- * LEADING_ALL and listed nothing, since then no state fits, and it counts there;
- * after any other run it is empty room. (A run that was offered nothing leaves
- * LEADING_LEARNED entries.)
+ * Entries are counted up to the last whose mask is not 0. Where there is none, the
+ * first entry may be the conflict with mask 0, which stands alone: it is one where
+ * the run ended LEADING_ALL and listed nothing, since then no state fits, and it
+ * counts there; after any other run it is empty room. (A run that was offered
+ * nothing leaves LEADING_LEARNED entries.)
  *
  * Example: the small plant again, its first state, then all with what was learned.
  *
@@ -556,9 +562,9 @@ static inline size_t leading_held(const uint64_t *store, size_t store_len,
     size_t entries = store_len / 2, held = entries;
     while (held > 0 && store[LEADING_STORE_WORDS(held - 1)] == 0)
         held--;
-    if (held < entries && result[LEADING_ENDING] == LEADING_ALL &&
+    if (held == 0 && entries > 0 && result[LEADING_ENDING] == LEADING_ALL &&
         result[LEADING_LISTED] == 0)
-        held++;
+        held = 1;
     return held;
 }
 

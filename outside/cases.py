@@ -9,8 +9,8 @@ from typing import NamedTuple
 from listing import Settings
 from plant import Refusal, encode, fields, pack, read
 from search import STATE_BYTES, to_words, well_formed
-from shapes import nogood_plant, random_sizes, random_words, shaped
-from shapes import small_random_plant, spoil
+from shapes import extension_of, nogood_plant, random_assignment, random_sizes
+from shapes import random_words, relatives, shaped, small_random_plant, spoil
 from sheet_cases import end_damage, flipped, header_damage, longest_plant
 from test_cases import Call, answer_call, middle_plant, tight_plant
 
@@ -224,7 +224,7 @@ def fair_shape(rng, plant):
     k = rng.choice([1, 2, 3, 5, 16, 16, 40, 40, 300, 4096])
     queue = 2 * rng.choice([1, 2, 3, 5, 9, 20, 64, states, states, 4096])
     store = 2 * rng.choice([0, 1, 2, 3, 8, 20, 64, 64, 4096])
-    held = min(store // 2, rng.choice([0, 0, 1, 2, 5, 20, store // 2]))
+    held = min(store // 2, rng.choice([0, 1, 2, 3, 5, 5, 8, 20, store // 2]))
     codes, costs = (k + rng.choice([0, 0, 1, 7]) for _ in range(2))
     values = STATE_BYTES * k + rng.choice([0, 0, 1, 47, 300])
     result, limit = rng.choice([6, 7, 8]), any_limit(rng)
@@ -302,6 +302,31 @@ def any_offer(rng, plant):
     return words
 
 
+def likely_conflict(rng, plant):
+    """A broken clause, or most parts given a value where no clause is of parts alone."""
+    entry = well_formed(plant, *broken_clause(rng, plant))
+    return entry if any(v is not None for v in entry) else random_assignment(rng, plant, 0.8)
+
+
+def related_offers(rng, plant, count):
+    """Offers that contain one another or are equal, in any order: relatives of likely
+    conflicts, many of these with more members, so that a learned one pushes them out."""
+    short = [likely_conflict(rng, plant) for _ in range(rng.randint(1, 4))]
+    longer = [extension_of(rng, plant, entry) for entry in short]
+    entries = rng.choice([short, longer, longer, short[:1] + longer])
+    offers = [to_words(entry) for entry in relatives(rng, plant, entries, count)]
+    for place in range(0, count, 5):
+        if rng.random() < 0.3:
+            offers[place] = any_offer(rng, plant)
+    return offers
+
+
+def any_offers(rng, plant, count):
+    if rng.random() < 0.7:
+        return related_offers(rng, plant, count)
+    return [any_offer(rng, plant) for _ in range(count)]
+
+
 def put_offers(settings, offers):
     room = min(settings.held, len(settings.store) // 2)
     words = [word for offer in offers[:room] for word in offer]
@@ -333,7 +358,7 @@ def any_case(rng):
     damaged = rng.random() < 0.3
     sheet = rng.choice(DAMAGE)(rng, plant) if damaged else encode(plant)
     settings = lend(rng, shape)
-    offers = [any_offer(rng, plant) for _ in range(min(shape.held, 30))]
+    offers = any_offers(rng, plant, min(shape.held, 30))
     if rng.random() < 0.9:
         put_offers(settings, offers)
     return Case(sheet, settings, junk(rng, shape.result, 4), damaged)

@@ -36,6 +36,7 @@ class Answer(NamedTuple):
     returned: int
     strays: int  # bytes around the buffers that changed
     buffers: dict  # the bytes of each by its name, in the call's order
+    rules: frozenset = frozenset()  # how entries of the store went, of the outside lister's
 
     def words(self, name):
         return words_of(self.buffers[name], name)

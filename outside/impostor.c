@@ -1,6 +1,6 @@
 /* Wrong calls over the right ones, to see that scale.py finds them: IMPOSTOR says
- * which; 1 to 8 and 35 to 46 list, 9 to 13 and 47 to 50 test, 14 to 19 reduce, 20 to
- * 29 write, 30 to 34 read.
+ * which; 1 to 8, 35 to 46 and 51 to 65 list, 9 to 13 and 47 to 50 test, 14 to 19
+ * reduce, 20 to 29 write, 30 to 34 read.
  * Linked with --wrap for each of the five; no part of the gate. */
 #include "leading.h"
 
@@ -107,6 +107,195 @@ static void show_otherwise(const uint8_t *sheet, size_t sheet_len, uint8_t *valu
         last[variables(sheet)] = 1;
 }
 
+/* ---- conflicts that contain one another ---- */
+
+struct entry {
+    uint64_t mask, values;
+};
+
+static const struct entry none;
+
+/* Of the listing under way: the offers as lent, and those found inconsistent. */
+static struct entry offers[LEADING_STORE_ENTRIES_MOST], found[LEADING_STORE_ENTRIES_MOST];
+static size_t offers_n, found_n;
+
+static int same(struct entry one, struct entry other)
+{
+    return one.mask == other.mask && one.values == other.values;
+}
+
+static int contains(struct entry own, struct entry part)
+{
+    uint64_t used = 0;
+    for (unsigned i = 0; i < LEADING_PARTS_MOST; i++)
+        if (part.mask & LEADING_MASK(i))
+            used |= LEADING_CODE(i, 15);
+    return (own.mask & part.mask) == part.mask && (own.values & used) == part.values;
+}
+
+static void keep_offers(const uint64_t *store, size_t store_len, size_t held)
+{
+    int lent = store_len <= LEADING_STORE_WORDS(LEADING_STORE_ENTRIES_MOST) &&
+               held <= store_len / 2;
+    offers_n = lent ? held : 0;
+    if (offers_n > 0)
+        memcpy(offers, store, offers_n * sizeof *offers);
+}
+
+/* A test that takes its trials off the limit; LEADING_TEST_CONSISTENT if ill formed. */
+static uint32_t tried(const uint8_t *sheet, size_t sheet_len, struct entry own, uint32_t *limit)
+{
+    uint8_t shown[LEADING_STATE_BYTES];
+    uint32_t answer[LEADING_ANSWER_WORDS];
+    if (__real_leading_test(sheet, sheet_len, own.mask, own.values, *limit, shown, answer,
+                            LEADING_ANSWER_WORDS))
+        return LEADING_TEST_CONSISTENT;
+    *limit -= answer[LEADING_ANSWER_TRIALS];
+    return answer[LEADING_ANSWER];
+}
+
+static int contains_found(struct entry own)
+{
+    for (size_t i = 0; i < found_n; i++)
+        if (contains(own, found[i]))
+            return 1;
+    return 0;
+}
+
+/* Step 1's tests; whether the limit strikes there. */
+static int find(const uint8_t *sheet, size_t sheet_len, uint64_t *store, uint32_t limit)
+{
+    found_n = 0;
+    for (size_t i = 0; i < offers_n; i++) {
+        if (IMPOSTOR == 59 && contains_found(offers[i])) { /* dropped untested, as ill formed */
+            store[2 * i] |= 1;
+            continue;
+        }
+        uint32_t answer = tried(sheet, sheet_len, offers[i], &limit);
+        if (answer == LEADING_TEST_SPENT)
+            return 1;
+        if (answer == LEADING_TEST_INCONSISTENT)
+            found[found_n++] = offers[i];
+    }
+    return 0;
+}
+
+/* The offers in an order in which the first of equal ones stands where the last one did. */
+static void order_by_last(uint64_t *store)
+{
+    size_t n = 0;
+    for (size_t i = 0; i < offers_n; i++) {
+        size_t copies = 0, later = 0;
+        for (size_t j = 0; j < offers_n; j++)
+            if (same(offers[j], offers[i]))
+                *(j <= i ? &copies : &later) += 1;
+        for (; later == 0 && copies > 0; copies--)
+            memcpy(store + 2 * n++, &offers[i], sizeof *offers);
+    }
+}
+
+/* Whether one entry found drops another, by their places. */
+static int drops(size_t place, size_t other)
+{
+    struct entry own = found[place], rival = found[other];
+    if (IMPOSTOR == 54 && place + 1 != other && other + 1 != place) /* neighbours compared */
+        return 0;
+    if (IMPOSTOR == 55 && other > place) /* earlier ones compared */
+        return 0;
+    if (same(own, rival))
+        return other < place || IMPOSTOR == 53; /* none of equal ones kept */
+    if (IMPOSTOR == 51) /* the longer one kept */
+        return contains(rival, own);
+    if (IMPOSTOR == 62) /* values not looked at */
+        return own.mask != rival.mask && (own.mask & rival.mask) == rival.mask;
+    return contains(own, rival);
+}
+
+static int dropped(size_t place, int struck)
+{
+    if (IMPOSTOR == 60 || (IMPOSTOR == 65 && struck)) /* never, or not if the limit struck */
+        return 0;
+    for (size_t other = 0; other < found_n; other++)
+        if (other != place && drops(place, other))
+            return 1;
+    return 0;
+}
+
+static size_t entries_left(const struct entry *after, size_t room)
+{
+    while (room > 0 && same(after[room - 1], none))
+        room--;
+    return room;
+}
+
+/* The learned conflict, at places from first to end, that pushes the entry out; or end. */
+static size_t pusher(struct entry own, const struct entry *after, size_t first, size_t end)
+{
+    while (first < end && !contains(own, after[first]))
+        first++;
+    return first;
+}
+
+/* The store that another rule leaves of the entries found and of those learned, where
+ * there is room for it; how many of the one the other pushed out. */
+static uint32_t store_otherwise(uint64_t *store, size_t store_len, uint32_t learned, int struck)
+{
+    static struct entry after[LEADING_STORE_ENTRIES_MOST], kept[2 * LEADING_STORE_ENTRIES_MOST];
+    uint8_t placed[LEADING_STORE_ENTRIES_MOST] = {0};
+    size_t n = 0;
+    uint32_t pushed = 0;
+    if (store_len == 0)
+        return 0;
+    memcpy(after, store, store_len * sizeof *store);
+    size_t end = entries_left(after, store_len / 2);
+    end = end < learned ? learned : end; /* the empty assignment's words are zeros */
+    for (size_t place = 0; place < found_n; place++) {
+        size_t by = pusher(found[place], after, end - learned, end);
+        if (dropped(place, struck)) {
+            if (IMPOSTOR == 64) /* a dropped one's place left */
+                kept[n++] = none;
+            continue;
+        }
+        pushed += by < end;
+        if (by == end || IMPOSTOR == 61) /* nothing is pushed out */
+            kept[n++] = found[place];
+        else if (IMPOSTOR == 56) /* its place left */
+            kept[n++] = none;
+        else if (IMPOSTOR == 63 && !placed[by]++) /* the learned one put there */
+            kept[n++] = after[by];
+    }
+    for (size_t by = end - learned; by < end; by++)
+        if (!placed[by])
+            kept[n++] = after[by];
+    if (n <= store_len / 2) {
+        memset(store, 0, store_len * sizeof *store);
+        memcpy(store, kept, n * sizeof *kept);
+    }
+    return pushed;
+}
+
+/* With room for one more, if the list is as long and the store has room for what is left. */
+static void reduce_when_full(const uint8_t *sheet, size_t sheet_len, size_t queue_len,
+                             uint64_t *store, size_t store_len, uint32_t *result, uint32_t k,
+                             uint32_t limit)
+{
+    static uint64_t codes[LEADING_K_MOST], wide[LEADING_STORE_WORDS(LEADING_STORE_ENTRIES_MOST)];
+    static uint64_t queue[LEADING_QUEUE_WORDS(LEADING_QUEUE_ENTRIES_MOST)];
+    static uint32_t costs[LEADING_K_MOST];
+    static uint8_t values[LEADING_VALUES_BYTES(LEADING_K_MOST)];
+    uint32_t other[LEADING_RESULT_WORDS];
+    if (result[LEADING_UNKEPT] == 0 || store_len + 2 > sizeof wide / sizeof *wide)
+        return;
+    memcpy(wide, offers, offers_n * sizeof *offers);
+    __real_leading_list(sheet, sheet_len, codes, k, costs, k, values, LEADING_VALUES_BYTES(k),
+                        queue, queue_len, wide, store_len + 2, other, LEADING_RESULT_WORDS, k,
+                        offers_n, limit);
+    if (other[LEADING_LISTED] != result[LEADING_LISTED] || wide[store_len] != 0)
+        return;
+    memcpy(store, wide, store_len * sizeof *store);
+    memcpy(result, other, sizeof other);
+}
+
 /* Of several grounds to refuse another one. */
 static uint32_t refused_otherwise(uint32_t refused, size_t values_len, size_t queue_len,
                                   uint32_t k)
@@ -129,6 +318,10 @@ uint32_t __wrap_leading_list(LENT)
         held = held > store_len / 2 ? held : 0;
     if (IMPOSTOR == 37 && 0 < k && k < LEADING_K_MOST && k < codes_len && k < costs_len)
         k += values_len >= LEADING_VALUES_BYTES(k + 1); /* 'enough' one state late */
+    keep_offers(store, store_len, held);
+    if (IMPOSTOR == 52) /* of equal ones the last kept */
+        order_by_last(store);
+    int struck = IMPOSTOR > 50 && find(sheet, sheet_len, store, limit);
     size_t room = values_len + (IMPOSTOR == 45); /* a buffer one byte short is taken */
     uint32_t refused = __real_leading_list(sheet, sheet_len, codes, codes_len, costs, costs_len,
                                            values, room, queue, queue_len, store, store_len,
@@ -137,9 +330,18 @@ uint32_t __wrap_leading_list(LENT)
         result[0] = 0;
     if (IMPOSTOR == 46 && refused && values_len > 0) /* a refusal shows */
         values[0] ^= 1;
+    if ((IMPOSTOR == 52 || IMPOSTOR == 59) && refused && offers_n > 0)
+        memcpy(store, offers, offers_n * sizeof *offers);
     if (refused)
         return refused_otherwise(refused, values_len, queue_len, k);
     uint32_t listed = result[LEADING_LISTED];
+    uint32_t *learned = &result[LEADING_LEARNED], pushed = 0;
+    if (IMPOSTOR == 58) /* a full store reduces */
+        reduce_when_full(sheet, sheet_len, queue_len, store, store_len, result, k, limit);
+    else if (IMPOSTOR > 50 && IMPOSTOR != 52 && IMPOSTOR != 59)
+        pushed = store_otherwise(store, store_len, *learned, struck);
+    if (IMPOSTOR == 57) /* the tally lowered */
+        *learned -= pushed < *learned ? pushed : *learned;
     show_otherwise(sheet, sheet_len, values, values_len, listed);
     if (IMPOSTOR == 4) /* the queue's last word */
         queue[queue_len - 1] ^= 1;

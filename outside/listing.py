@@ -92,6 +92,18 @@ def resolves(node, conflict):
     )
 
 
+def survivors(found):
+    """Of the entries found inconsistent those left: one that contains another goes,
+    wherever the other stands, and of equal ones the first remains."""
+    # A dictionary has equal ones once, at the first one's place.
+    distinct = list(dict.fromkeys(found))
+    return [
+        entry
+        for entry in distinct
+        if not any(other != entry and manifests(entry, other) for other in distinct)
+    ]
+
+
 def give(node, variable, value):
     return node[:variable] + (value,) + node[variable + 1 :]
 
@@ -121,20 +133,27 @@ class Run:
         self.store_entries = len(settings.store) // 2
         self.meter = Meter(settings.limit)
         self.queue = []  # pairs of the best state's order and the node
+        self.found = []  # the offered entries found inconsistent, pushed out or not
         self.store = []
         self.listed = []  # the values of all variables of each state
         self.tested = self.learned = self.unkept = 0
         self.reducing = False
 
+    def check_entry(self, mask, values):
+        try:
+            entry = well_formed(self.plant, mask, values)
+        except Refusal:
+            return
+        if test(self.plant, entry, self.meter) is None:
+            self.found.append(entry)
+
     def check_offered(self, offered):
-        """Step 1."""
-        for mask, values in offered:
-            try:
-                entry = well_formed(self.plant, mask, values)
-            except Refusal:
-                continue
-            if test(self.plant, entry, self.meter) is None:
-                self.store.append(entry)
+        """Step 1. Where the limit strikes, the survivors are of those checked so far."""
+        try:
+            for words in offered:
+                self.check_entry(*words)
+        finally:
+            self.store = survivors(self.found)
 
     def remove_first(self):
         # Nodes share no state, so no two have one best state.
@@ -171,7 +190,7 @@ class Run:
         self.reducing = True
         conflict = reduce_within(self.plant, state, self.meter)
         self.reducing = False
-        self.store.append(conflict)
+        self.store = [c for c in self.store if not manifests(c, conflict)] + [conflict]
         self.learned += 1
         self.queue = [e for e in self.queue if not manifests(e[1], conflict)]
 

@@ -1,13 +1,16 @@
 """Fixed listings for a gate."""
 
 from functools import lru_cache
+from itertools import permutations
 from random import Random
 from typing import NamedTuple, Optional
 
 from listing import K_MOST, Run as Steps, Settings, listing, order
 from plant import Literal, Plant, Refusal, encode
-from search import STATE_BYTES
-from shapes import nogood_plant, random_words, shaped, small_random_plant, spoil
+from pushed import OTHER_RULES
+from search import STATE_BYTES, to_words
+from shapes import nogood_plant, random_assignment, random_words, relatives, shaped
+from shapes import small_random_plant, spoil
 from sheet_cases import (
     LIMIT_MOST,
     SMALL_PLANT,
@@ -21,7 +24,7 @@ from sheet_cases import (
     with_field,
 )
 from test_cases import between, middle_plant, tight_plant
-from whole import whole_set
+from whole import brute_consistent, consistent_states, whole_set
 
 
 class Run(NamedTuple):
@@ -68,6 +71,7 @@ def answer_run(run):
 
 def offering(run, offers):
     """The run with these entries offered, in a store that has room for them."""
+    offers = list(offers)
     given = tuple(word for entry in offers for word in entry)
     store = max(run.store, len(given))
     return run._replace(given=given, held=len(offers), store=store)
@@ -357,6 +361,119 @@ def values_runs(rng):
     return runs
 
 
+# ---- conflicts that contain one another ------------------------------------
+
+
+def forbidding(costs, conflicts):
+    """A plant of these conflicts; its hidden variable gives every test trials."""
+    hidden = len(costs)
+    clauses = []
+    for conflict in conflicts:
+        members = [(v, x) for v, x in enumerate(conflict) if x is not None]
+        clauses.append((*(Literal(v, 1, x) for v, x in members), Literal(hidden, 0, 1)))
+    return Plant(costs, (2,), (*clauses, (Literal(hidden, 0, 0),)))
+
+
+def entries_of(text):
+    """Assignments written a character a variable, a dot where it is unassigned."""
+    rows = text.split()
+    return [tuple(None if c == "." else int(c) for c in row) for row in rows]
+
+
+def offers_of(text):
+    return [to_words(entry) for entry in entries_of(text)]
+
+
+STEP_COSTS = ((0, 1), (0, 2), (0, 4))
+# An inconsistent offer of one, two or three members takes 14, 6 or 2 trials.
+STEPS_PLANT = forbidding(STEP_COSTS, entries_of("0.. 11."))
+NOTHING_FITS = forbidding(STEP_COSTS, entries_of("..."))
+
+
+def thinned_offer_runs():
+    """Longer ones before and after shorter ones, equal ones, next to each other or not."""
+    texts = [" ".join(chain) for chain in permutations(("0..", "00.", "000"))]
+    texts += ["00. 0..", "0.. 00.", "0.. 0..", "00. 0.. 00.", "00. 11. 0..", "0.. 11. 00."]
+    texts += ["0.. 11. 0..", "11. 0.. 11. 0..", "00. 1.. 0..", "000 111 00. 11."]
+    texts += ["001 0.1 00.", "... 00. 0..", "01. 00.", "010 11. 0.1 011 110"]
+    return [offering(Run(encode(STEPS_PLANT)), offers_of(text)) for text in texts]
+
+
+def pushed_out_runs():
+    """Survivors that a learned conflict pushes out, with room in the store and without:
+    full stores do not reduce, and what is pushed out makes room."""
+    runs = []
+    for text in ("01.", "01. 0.1", "010 011 001", "01. 11.", "111 01.", "00. 0.. 000"):
+        run = offering(Run(encode(STEPS_PLANT), store=0), offers_of(text))
+        runs += [run._replace(store=run.store + more) for more in (0, 2, 20)]
+    return runs
+
+
+def struck_offer_runs():
+    """Limits that strike in step 1 and in the reduction of what would push one out."""
+    runs = []
+    for text, limits in [
+        ("00. 0.. 11.", (5, 6, 19, 20, 23, 26)),
+        ("0.. 00. 11.", (14, 19, 20, 23)),
+        ("11. 11. 0..", (11, 12)),
+        ("000 00. 0.. 11.", (8, 22)),
+        ("01.", (9, 32, 33, 34)),
+    ]:
+        run = offering(Run(encode(STEPS_PLANT)), offers_of(text))
+        runs += [run._replace(limit=limit) for limit in limits]
+    return runs
+
+
+def empty_conflict_runs():
+    """The empty assignment, offered or learned, is the only entry left."""
+    runs = []
+    for text in ("... 0..", "0.. ... 11.", "... ...", "0..", "000 111 01."):
+        run = offering(Run(encode(NOTHING_FITS)), offers_of(text))
+        runs += [run, run._replace(store=2 * run.held)]
+    run = offering(Run(encode(NOTHING_FITS)), offers_of("0.. ..."))
+    runs += [run._replace(limit=limit) for limit in (14, 43, 44)]
+    run = offering(Run(encode(SMALL_PLANT_EMPTY_CLAUSE)), offers_of("0. .. 01"))
+    return runs + [run, run._replace(held=1), run._replace(held=2, limit=0)]
+
+
+def answer_by(run, kind):
+    """The answer of another lister."""
+    return listing(run.sheet, settings_of(run), kind)
+
+
+def related_run(rng):
+    """Offers that contain one another, most of them inconsistent."""
+    plant = rng.choice([nogood_plant, tight_plant, small_random_plant])(rng)
+    states = consistent_states(plant)
+    tries = (random_assignment(rng, plant, 0.7) for _ in range(20))
+    conflicts = [entry for entry in tries if not brute_consistent(states, entry)]
+    entries = conflicts[:3] + [random_assignment(rng, plant)]
+    offers = relatives(rng, plant, entries, rng.randint(2, 7))
+    run = Run(encode(plant), 12, 12, 12, None, 600, 2 * rng.choice([0, 0, 1, 4, 10]))
+    return offering(run, map(to_words, offers))
+
+
+def related_runs(rng):
+    """For each of the other rules, runs that come out otherwise with it."""
+    runs = []
+    for kind in OTHER_RULES.values():
+        enough = len(runs) + 2
+        while len(runs) < enough:
+            run = related_run(rng)
+            trials = answer_run(run).trials
+            limited = run._replace(limit=rng.randint(0, trials))
+            run = rng.choice([run, limited])
+            if answer_by(run, kind) != answer_run(run):
+                runs.append(run)
+    return runs
+
+
+@lru_cache(maxsize=1)
+def short_reason_runs():
+    runs = thinned_offer_runs() + pushed_out_runs() + struck_offer_runs()
+    return runs + empty_conflict_runs() + related_runs(Random(808))
+
+
 def with_room(place, run):
     """The run with a number of bytes of values, now and then more than enough."""
     if run.values is not None:
@@ -371,7 +488,7 @@ def listing_cases():
     cases += random_runs(rng) + queue_runs(rng)
     cases += wide_runs(rng) + contradiction_runs(rng)
     cases += last_state_runs(Random(404)) + cheapest_value_runs(Random(505))
-    cases += values_runs(Random(707))
+    cases += values_runs(Random(707)) + short_reason_runs()
     return [with_room(place, run) for place, run in enumerate(cases)]
 
 

@@ -21,13 +21,14 @@ from cases import crowded_plant, put_offers, shaft_plant, tied_plant, wide_plant
 from driver import SHOWN_MOST, Answer, Tally, batches, buffers_of, in_words, run_batch
 from listing import ENDINGS, Result, Run, Settings, export, manifests
 from plant import encode, read
+from pushed import Watch, rules_met
 from search import ANSWER_WORDS, CONFLICT_WORDS, REDUCE_ANSWERS, STATE_BYTES
-from search import TEST_ANSWERS, Meter, reduce_export, test_export, well_formed
-from shapes import nogood_plant, random_words, small_random_plant
+from search import TEST_ANSWERS, Meter, reduce_export, test_export, to_words, well_formed
+from shapes import nogood_plant, random_words, relatives, small_random_plant
 from table_scale import TableTally, report_tables, run_stored, run_tables
 from test_cases import tight_plant
-from whole import begins, brute_consistent, check_demand3, check_rest, check_shown
-from whole import consistent_states, minimal, shown_at, whole_set
+from whole import assignment_of, begins, brute_consistent, check_demand3, check_rest
+from whole import check_shown, consistent_states, minimal, shown_at, whole_set
 
 WORK_MOST = 300_000
 TRIALS_MOST = 60_000
@@ -73,9 +74,10 @@ def copy_of(case):
 
 def wanted(case):
     """The outside lister's answer; raises TooLong."""
-    own = copy_of(case)
-    returned = export(own.sheet, own.settings, own.result, Bounded)
-    return Answer(returned, 0, buffers_of(own))
+    own, watch = copy_of(case), Watch(Bounded)
+    returned = export(own.sheet, own.settings, own.result, watch)
+    rules = rules_met(watch.run) if watch.run else ()
+    return Answer(returned, 0, buffers_of(own), frozenset(rules))
 
 
 def wanted_call(case):
@@ -148,6 +150,7 @@ class ListingTally(SearchTally):
     def count_run(self, case, want):
         number, listed = want.words("result")[:2]
         self.endings[ENDING_NAMES[number]] += 1
+        self.counts.update(want.rules)
         self.counts["all with k"] += number == ENDINGS["all"] and listed == case.settings.k
         self.counts["longest"] = max(self.counts["longest"], listed)
 
@@ -261,10 +264,12 @@ class History:
         self.shown = {}  # by code, what the runs show of the state
 
     def offers(self, others):
-        """Its own memory, another sheet's, junk, or none."""
-        rng, kind = self.rng, self.rng.randrange(8)
+        """Its own memory, relatives of it, another sheet's, junk, or none."""
+        rng, kind = self.rng, self.rng.randrange(10)
         if kind < 4:
             return left_entries(self.left)
+        if kind > 7:
+            return self.relatives_left()
         if kind == 4:
             return left_entries(rng.choice(others).left)
         if kind == 5:
@@ -274,6 +279,13 @@ class History:
             words = junk(rng, 2 * rng.randint(1, 12), 8)
             return list(zip(words[0::2], words[1::2]))
         return []
+
+    def relatives_left(self):
+        """Entries that contain what the last run left, equal ones and parts of it."""
+        own = [assignment_of(self.plant, words) for words in left_entries(self.left)]
+        entries = [entry for entry in own if entry] or [(None,) * self.plant.decisions]
+        made = relatives(self.rng, self.plant, entries, self.rng.randint(1, 12))
+        return [to_words(entry) for entry in made]
 
     def shape(self, offers):
         rng = self.rng
@@ -372,6 +384,9 @@ def report(tally, sheets):
         f"scale: endings: {in_words(tally.endings)}; {c['all with k']} of 'all' with k "
         f"listed; the longest list {c['longest']}\n"
         f"scale: refusals: {in_words(tally.refusals)}\n"
+        f"scale: entries of the store: in {c['longer dropped']} runs an offer dropped that "
+        f"contains another, in {c['equal dropped']} one equal to an earlier one; in "
+        f"{c['pushed out']} a survivor pushed out by a learned conflict\n"
         f"scale: demand 3 checked on {c['demand 3']} runs, "
         f"in {c['struck in a reduction']} the limit struck in a reduction; {c['shown']} "
         f"states shown, {c['shafts']} with a hidden variable that is not 0\n"

@@ -79,6 +79,36 @@ def random_assignment(rng, plant, chance=0.5):
     )
 
 
+def part_of(rng, entry):
+    """The assignment without some of its members."""
+    return tuple(value if rng.random() < 0.6 else None for value in entry)
+
+
+def extension_of(rng, plant, entry):
+    """The assignment with some more members."""
+    pairs = zip(entry, plant.costs)
+    return tuple(
+        rng.randrange(len(c)) if v is None and rng.random() < 0.5 else v for v, c in pairs
+    )
+
+
+def relative(rng, plant, entry):
+    """The assignment itself, a part of it, or one that contains it."""
+    kind = rng.randrange(5)
+    if kind == 0:
+        return entry
+    return part_of(rng, entry) if kind == 1 else extension_of(rng, plant, entry)
+
+
+def relatives(rng, plant, entries, count):
+    """So many relatives of these assignments and of one another, in any order."""
+    made = []
+    while len(made) < count:
+        made.append(relative(rng, plant, rng.choice(entries + made)))
+    rng.shuffle(made)
+    return made
+
+
 def random_words(rng, plant, chance=0.5):
     return to_words(random_assignment(rng, plant, chance))
 

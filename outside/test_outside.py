@@ -2,7 +2,8 @@
 
 import sys
 import unittest
-from itertools import combinations, product
+from collections import Counter
+from itertools import combinations, permutations, product
 from math import prod
 from random import Random
 
@@ -14,11 +15,14 @@ import sheet_cases
 import table_cases
 import test_cases
 import vectors
-from listing import Run, Settings, best_state, export, leading, listing, order
+from listing import Run, Settings, best_state, export, leading, listing, manifests
+from listing import order, survivors
+from listing_cases import NOTHING_FITS, STEPS_PLANT, answer_by, offers_of
 from plant import Literal, Plant, Refusal, encode, fields, pack, read
+from pushed import OTHER_RULES, FullReduces, Watch, pushed_out, rules_met
 from search import Meter, is_false, reduce_call, reduce_export, reduce_within, shown
-from search import test, test_call, test_export, well_formed
-from shapes import nogood_plant, random_assignment, random_words
+from search import test, test_call, test_export, to_words, well_formed
+from shapes import nogood_plant, random_assignment, random_words, relatives
 from shapes import small_random_plant, spoil
 from tables import Tables, grounds, read_tables, sheet_of, tables_of
 from tables import fields as table_fields, write_into, write_tables
@@ -28,7 +32,9 @@ from whole import (
     check_demand3,
     check_rest,
     check_shown,
+    check_store,
     consistent_states,
+    contains,
     first_success,
     minimal,
     run_list,
@@ -684,6 +690,296 @@ class ValueImpostors(unittest.TestCase):
         self.assertNotEqual([], self.complaints(exchange))
 
 
+class Incremental(Run):
+    """The rule of request L5 one entry at a time: one that contains a stored one is
+    dropped, and otherwise pushes out those that contain it."""
+
+    def check_offered(self, offered):
+        for words in offered:
+            before = len(self.found)
+            self.check_entry(*words)
+            for entry in self.found[before:]:
+                self.put_in_store(entry)
+
+    def put_in_store(self, entry):
+        if any(manifests(entry, stored) for stored in self.store):
+            return
+        for place in reversed(range(len(self.store))):
+            if manifests(self.store[place], entry):
+                del self.store[place]
+        self.store.append(entry)
+
+    def learn(self, state):
+        before = self.store
+        super().learn(state)
+        conflict, self.store = self.store[-1], before
+        self.put_in_store(conflict)
+
+
+class Learning(Run):
+    """A run that keeps what it learned, and finds it to contain no stored entry."""
+
+    def __init__(self, plant, settings):
+        super().__init__(plant, settings)
+        self.conflicts = []
+
+    def learn(self, state):
+        before = self.store
+        super().learn(state)
+        self.conflicts.append(self.store[-1])
+        if any(manifests(self.store[-1], entry) for entry in before):
+            raise AssertionError("a learned conflict contains a stored one")
+
+
+def offering(text, store=8, limit=1_000_000, **settings):
+    """Settings with these entries offered."""
+    return set_up(store=store, offers=offers_of(text), limit=limit, **settings)
+
+
+def related_settings(rng, plant):
+    """Offers that contain one another, in stores that are full, nearly full or not."""
+    entries = [random_assignment(rng, plant, chance) for chance in (0.3, 0.6, 0.6, 1.0)]
+    offers = relatives(rng, plant, entries, rng.randint(1, 9))
+    store = len(offers) + rng.choice([0, 0, 1, 2, 9])
+    limit = rng.choice([10**6, 10**6, rng.randrange(60), rng.randrange(300)])
+    return set_up(rng.choice([1, 3, 40]), 300, store, list(map(to_words, offers)), limit)
+
+
+class ShortReasons(unittest.TestCase):
+    """Request L5: no stored conflict contains another."""
+
+    def check(self, text, left, words, plant=STEPS_PLANT, **numbers):
+        """These offers leave these entries, with this ending and these tallies."""
+        settings = offering(text, **numbers)
+        result = listing(encode(plant), settings)
+        self.assertEqual(words, f"{result.ending} " + " ".join(map(str, result.words()[1:])))
+        kept = [word for offer in offers_of(left) for word in offer]
+        self.assertEqual(kept + [0] * (len(result.store) - len(kept)), result.store)
+        self.assertEqual([], check_demand3(result, plant, settings))
+        return result
+
+    def check_offers(self, text, left, trials):
+        """Survivors of step 1, each offer tested: the limit strikes right behind it."""
+        self.check(text, left, f"spent 0 0 0 0 {trials}", limit=trials)
+
+    def test_pairs(self):
+        for text in ("00. 0..", "0.. 00."):
+            self.check_offers(text, "0..", 20)
+        self.check_offers("0.. 0..", "0..", 28)
+        self.check_offers("00. 00. 00.", "00.", 18)
+        self.check_offers("01. 00.", "01. 00.", 12)
+        self.check_offers("0.1 00.", "0.1 00.", 12)
+
+    def test_chains(self):
+        for chain in permutations(("0..", "00.", "000")):
+            self.check_offers(" ".join(chain), "0..", 22)
+        for chain in permutations(("00.", "000", "001")):
+            self.check_offers(" ".join(chain), "00.", 10)
+
+    def test_apart(self):
+        """Others between them keep their order, and all close up."""
+        for text, left in [
+            ("00. 11. 0..", "11. 0.."),
+            ("0.. 11. 00.", "0.. 11."),
+            ("00. 110 0.. 11.", "0.. 11."),
+            ("110 00. 11. 0..", "11. 0.."),
+            ("11. 0.. 110 00.", "11. 0.."),
+        ]:
+            trials = sum({1: 14, 2: 6, 3: 2}[3 - row.count(".")] for row in text.split())
+            self.check_offers(text, left, trials)
+
+    def test_first_of_equal(self):
+        self.check_offers("0.. 11. 0..", "0.. 11.", 34)
+        self.check_offers("11. 0.. 11. 0..", "11. 0..", 40)
+        self.check_offers("11. 00. 11. 00. 000", "11. 00.", 26)
+
+    def test_still_tested(self):
+        """Of an offer that contains an earlier one the trials are made and counted."""
+        self.check("0..", "0.. .1.", "all 2 3 1 0 48")
+        self.check("0.. 00.", "0.. .1.", "all 2 3 1 0 54")
+        self.check("0.. 0..", "0.. .1.", "all 2 3 1 0 62")
+
+    def test_consistent_and_ill_formed(self):
+        """What is not found inconsistent pushes nothing out."""
+        self.check("1.. 11. 0..", "11. 0..", "all 2 2 0 0 25")
+        self.check("... 00. 11. 0..", "11. 0..", "all 2 2 0 0 47")
+        spoilt = [(1 << 63 | 1, 0), *offers_of("00."), (0, 1), *offers_of("11.")]
+        result = listing(encode(STEPS_PLANT), set_up(store=8, offers=spoilt, limit=12))
+        self.assertEqual([3 << 62, 0, 3 << 62, 0x11 << 56, 0], result.store[:5])
+
+    def test_struck(self):
+        """The limit strikes in step 1: the rule is for those checked so far, and the
+        entry under test is not among them."""
+        for limit, left in [(5, ""), (6, "00."), (19, "00."), (20, "0.."), (25, "0..")]:
+            self.check("00. 0.. 11.", left, f"spent 0 0 0 0 {limit}", limit=limit)
+        for limit, left in [(13, ""), (14, "0.."), (19, "0.."), (20, "0.."), (25, "0..")]:
+            self.check("0.. 00. 11.", left, f"spent 0 0 0 0 {limit}", limit=limit)
+        for limit in (6, 11, 12, 25):
+            self.check("11. 11. 0..", "11.", f"spent 0 0 0 0 {limit}", limit=limit)
+
+    def test_pushed_out(self):
+        """By a learned conflict, one and several at once; the tally counts what was
+        learned, and the learned one comes last."""
+        self.check("01.", "0.. .1.", "all 2 4 2 0 67")
+        self.check("01. 11.", "11. 0..", "all 2 3 1 0 41")
+        self.check("010 11. 011 001", "11. 0..", "all 2 3 1 0 41")
+        self.check("11. 01. 0.1", "11. 0..", "all 2 3 1 0 47")
+
+    def test_struck_in_reduction(self):
+        """What is not learned pushes nothing out."""
+        for limit in (8, 32):
+            result = self.check("01.", "01.", f"spent 0 1 0 0 {limit}", limit=limit)
+            self.assertTrue(result.struck_in_reduction)
+        self.check("01.", "0..", "spent 0 1 1 0 33", limit=33)
+
+    def test_full_store(self):
+        """Asked before the reduction: it is skipped, though one would be pushed out."""
+        self.check("01. 11.", "01. 11.", "all 2 4 0 2 18", store=2)
+        self.check("010 011 001", "010 011 001", "all 2 5 0 3 14", store=3)
+        self.check("01.", "01.", "all 2 6 0 4 16", store=1)
+
+    def test_room_made(self):
+        """What was dropped or pushed out leaves room for learned ones."""
+        self.check("01.", "0.. .1.", "all 2 4 2 0 67", store=2)
+        self.check("00. 0..", "0.. .1.", "all 2 3 1 0 54", store=2)
+        self.check("0.. 0..", "0.. .1.", "all 2 3 1 0 62", store=2)
+
+    def test_empty(self):
+        """The empty assignment is left alone: nothing is searched then."""
+        for text, trials in [("... 0..", 44), ("0.. ...", 44), ("0.. ... 11.", 50)]:
+            self.check(text, "...", f"all 0 0 0 0 {trials}", NOTHING_FITS)
+        self.check("0.. ...", "0..", "spent 0 0 0 0 43", NOTHING_FITS, limit=43)
+        self.check("0..", "...", "all 0 1 1 0 66", NOTHING_FITS)
+        self.check("000 111 01.", "...", "all 0 1 1 0 62", NOTHING_FITS)
+        self.check("0..", "0..", "all 0 4 0 4 22", NOTHING_FITS, store=1)
+
+    def test_by_definition(self):
+        """Survivors contain no other, each entry found contains one of them, and they
+        stand in the order of the first of each."""
+        rng = Random(15)
+        dropped = 0
+        for _ in range(500):
+            plant = small_random_plant(rng, 300)
+            entries = [random_assignment(rng, plant) for _ in range(rng.randint(1, 3))]
+            found = relatives(rng, plant, entries, rng.randint(0, 8))
+            left = survivors(found)
+            self.assertFalse(any(contains(a, b) for a, b in permutations(left, 2)))
+            self.assertTrue(all(any(contains(e, l) for l in left) for e in found))
+            places = [found.index(entry) for entry in left]
+            self.assertEqual(sorted(set(places)), places)
+            dropped += len(left) < len(found)
+        self.assertLess(300, dropped)
+
+    def test_incremental(self):
+        """Random offers, one entry at a time and all at once: the same results."""
+        rng = Random(16)
+        seen = Counter()
+        for place in range(500):
+            plant = small_random_plant(rng, 300) if place % 2 else nogood_plant(rng)
+            settings = related_settings(rng, plant)
+            watch = Watch()
+            result = listing(encode(plant), settings, watch)
+            self.assertEqual(result, listing(encode(plant), settings, Incremental))
+            self.assertEqual([], check_demand3(result, plant, settings))
+            self.assertEqual([], check_rest(result, plant, settings))
+            seen.update(rules_met(watch.run))
+            seen["several at once"] += len(pushed_out(watch.run)) > result.learned
+        for name in ("longer dropped", "equal dropped", "pushed out", "several at once"):
+            self.assertLess(20, seen[name], name)
+
+    def test_learned_remain(self):
+        """A learned conflict contains no stored one and is never pushed out."""
+        rng = Random(17)
+        learned = 0
+        for _ in range(200):
+            plant = nogood_plant(rng)
+            settings = related_settings(rng, plant)
+            watch = Watch(Learning)
+            result = listing(encode(plant), settings, watch)
+            own = watch.run.conflicts
+            self.assertEqual(own, watch.run.store[len(watch.run.store) - len(own) :])
+            self.assertEqual(len(own), result.learned)
+            learned += len(own)
+        self.assertLess(200, learned)
+
+    def test_list(self):
+        """The list is the same whatever was offered."""
+        rng = Random(18)
+        pairs = 0
+        for _ in range(200):
+            plant = nogood_plant(rng)
+            lists = []
+            for _ in range(2):
+                lists.append(run_list(listing(encode(plant), related_settings(rng, plant))))
+            self.assertTrue(begins(*lists) or begins(*reversed(lists)))
+            pairs += all(lists)
+        self.assertLess(50, pairs)
+
+    def test_other_rules(self):
+        """Stored listings tell other rules from this one, and this one from nothing."""
+        runs = listing_cases.short_reason_runs()
+        right = [listing_cases.answer_run(run) for run in runs]
+
+        def told_apart(kind):
+            return sum(a != answer_by(run, kind) for a, run in zip(right, runs))
+
+        self.assertEqual(0, told_apart(Run))
+        self.assertEqual(0, told_apart(Incremental))
+        for name, kind in OTHER_RULES.items():
+            self.assertLess(2, told_apart(kind), name)
+
+
+class StoreImpostors(unittest.TestCase):
+    """Demand 3's check complains of each of these stores, and says why."""
+
+    def complaints(self, offered, left, learned=0, **changes):
+        settings = offering(offered)
+        result = listing(encode(STEPS_PLANT), settings)
+        self.assertEqual([], check_demand3(result, STEPS_PLANT, settings))
+        kept = [word for offer in offers_of(left) for word in offer]
+        result.store = kept + [0] * (16 - len(kept))
+        result.learned = learned
+        vars(result).update(changes)
+        return list(check_store(result, STEPS_PLANT, settings))
+
+    def test_complaints(self):
+        containing = "a stored entry contains another"
+        gone = "an offer is gone that contains no stored entry"
+        for offered, left, learned, why in [
+            ("00. 0..", "00. 0.. .1.", 1, containing),
+            ("00. 0..", "00. .1.", 1, gone),
+            ("0.. 0..", "0.. 0.. .1.", 1, containing),
+            ("0.. 0..", ".1.", 1, gone),
+            ("00. 11. 0..", "00. 11. 0..", 0, containing),
+            ("0.. 11. 0..", "11. 0..", 0, "the survivors are not in the order of the offers"),
+            ("0.. 11.", "11. 0..", 0, "the survivors are not in the order of the offers"),
+            ("01. 11.", "01. 11. 0..", 1, containing),
+            ("01. 11.", "0.. 11.", 1, "a survivor was not offered"),
+            ("01. 11.", "... 11. 0..", 1, containing),
+            ("01. 11.", "... 11. 0..", 1, "a stored entry is consistent"),
+            ("01. 11.", "11. 0..", 0, "a survivor was not offered"),
+            ("01. 11.", "11. 00.", 1, "a learned conflict is not minimal"),
+            ("01. 11.", "11. 0.. 1..", 2, "a stored entry is consistent"),
+            ("01. 11.", "0..", 2, "the store is not survivors, learned, zeros"),
+            ("01. 11.", "11. 02.", 1, "the store is not survivors, learned, zeros"),
+        ]:
+            self.assertIn(why, self.complaints(offered, left, learned), (offered, left))
+
+    def test_right_stores(self):
+        self.assertEqual([], self.complaints("00. 0..", "0.. .1.", 1))
+        self.assertEqual([], self.complaints("01. 11.", "11. 0..", 1))
+
+    def test_struck(self):
+        """Where the limit may have struck in step 1 those behind are not asked for,
+        and those before the last that survives are."""
+        struck = dict(ending="spent", tested=0)
+        gone = ["an offer is gone that contains no stored entry"]
+        for left in ("", "00.", "0..", "0.. 11."):
+            self.assertEqual([], self.complaints("00. 0.. 11.", left, **struck))
+        self.assertEqual(gone, self.complaints("00. 0.. 11.", "11.", **struck))
+        self.assertEqual(gone, self.complaints("00. 0.. 11.", "0.."))
+
+
 class Impostors(unittest.TestCase):
     """Demand 3's check complains of each of these."""
 
@@ -808,6 +1104,34 @@ class Vectors(unittest.TestCase):
         self.assertLessEqual({"listed after a failure", "the longest list"}, seen)
         self.assertLessEqual({(False, True), (0, False), (32, True), (32, False)}, seen)
         self.assertLessEqual(set(product((1, 2, 16, 4096), (-1, 0, 1))), lengths)
+
+    def test_short_reasons(self):
+        """Ways in which the listings' entries go, and in which they stay."""
+        seen = Counter()
+        for run in listing_cases.short_reason_runs():
+            watch = Watch()
+            result = listing(run.sheet, listing_cases.settings_of(run), watch)
+            found, gone, met = watch.run.found, pushed_out(watch.run), rules_met(watch.run)
+            seen.update(met)
+            seen["both"] += {"longer dropped", "pushed out"} <= met
+            seen["several dropped"] += len(survivors(found)) < len(set(found)) - 1
+            seen["several pushed out"] += len(gone) > result.learned
+            seen["some remain"] += 0 < len(gone) < len(survivors(found))
+            seen["nothing gone"] += bool(found) and not met
+            if result.ending == "spent" and result.tested == 0 and not watch.run.queue:
+                seen.update(f"{name}, struck" for name in met)  # in step 1
+            seen["struck in a reduction"] += bool(found) and result.struck_in_reduction
+            seen["full"] += result.unkept > 0 and answer_by(run, FullReduces) != result
+            seen["alone"] += (None,) * watch.run.plant.decisions in watch.run.store
+        for name in ("longer dropped", "equal dropped", "pushed out"):
+            self.assertLess(12, seen[name], name)
+        for name in ("both", "several dropped", "several pushed out", "some remain"):
+            self.assertLess(2, seen[name], name)
+        for name in ("longer dropped, struck", "equal dropped, struck"):
+            self.assertLess(2, seen[name], name)
+        for name in ("struck in a reduction", "nothing gone"):
+            self.assertLess(2, seen[name], name)
+        self.assertLess(4, min(seen["full"], seen["alone"]))
 
     def test_sheets(self):
         cases = sheet_cases.sheet_cases()

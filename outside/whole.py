@@ -5,7 +5,7 @@ running over all values of all variables.
 """
 
 from functools import lru_cache
-from itertools import product
+from itertools import permutations, product
 from math import prod
 
 from plant import Refusal
@@ -100,16 +100,23 @@ def minimal(states, conflict):
     return True
 
 
+def assignment_of(plant, words):
+    """None where the words are ill formed."""
+    try:
+        return well_formed(plant, *words)
+    except Refusal:
+        return None
+
+
+def contains(entry, part):
+    return agrees(part, entry)
+
+
 def true_offers(plant, settings, states):
-    """The offered entries that step 1 keeps where the limit allows."""
-    kept = []
-    for words in entries(settings.store[: 2 * settings.held]):
-        try:
-            if not brute_consistent(states, well_formed(plant, *words)):
-                kept.append(words)
-        except Refusal:
-            continue
-    return kept
+    """The offered entries that step 1 finds inconsistent where the limit allows."""
+    offered = entries(settings.store[: 2 * settings.held])
+    well = (assignment_of(plant, words) for words in offered)
+    return [own for own in well if own is not None and not brute_consistent(states, own)]
 
 
 def check_list(result, plant, settings):
@@ -135,29 +142,47 @@ def check_counts(result):
         yield "tested is not the sum"
 
 
+def stored(result, plant, offers):
+    """The entries in the store, None for an ill formed one; zeros end them. The empty
+    assignment's words are zeros too: it is there where it was learned or offered and
+    there is no other."""
+    after = entries(result.store)
+    count = max((n for n, words in enumerate(after, 1) if any(words)), default=0)
+    if count == 0 and (result.learned or (None,) * plant.decisions in offers):
+        count = 1
+    return [assignment_of(plant, words) for words in after[:count]]
+
+
+def check_survivors(result, own, offers):
+    """The entries before the learned ones, against the offers that are inconsistent."""
+    kept = own[: len(own) - result.learned]
+    if not all(entry in offers for entry in kept):
+        yield "a survivor was not offered"
+        return
+    places = [offers.index(entry) for entry in kept]
+    if places != sorted(places):
+        yield "the survivors are not in the order of the offers"
+    if result.ending == "spent" and result.tested == 0:
+        # The limit may have struck in step 1, behind the last that survives.
+        offers = offers[: max(places, default=-1) + 1]
+    if not all(any(contains(offer, entry) for entry in own) for offer in offers):
+        yield "an offer is gone that contains no stored entry"
+
+
 def check_store(result, plant, settings):
     states = consistent_states(plant)
     offers = true_offers(plant, settings, states)
-    if result.ending == "spent" and result.tested == 0:
-        # The limit may have struck in step 1, with offers still unchecked.
-        choices = range(len(offers) + 1)
-    else:
-        choices = [len(offers)]
-    after = entries(result.store)
-    fits = [
-        n
-        for n in choices
-        if after[:n] == offers[:n] and not any(result.store[2 * (n + result.learned) :])
-    ]
-    if len(result.store) != len(settings.store) or not fits:
+    own = stored(result, plant, offers)
+    if len(result.store) != len(settings.store) or None in own or len(own) < result.learned:
         yield "the store is not survivors, learned, zeros"
         return
-    kept = after[: fits[-1] + result.learned]
-    assignments = [well_formed(plant, *words) for words in kept]
-    if any(brute_consistent(states, entry) for entry in assignments):
+    if any(brute_consistent(states, entry) for entry in own):
         yield "a stored entry is consistent"
-    if not all(minimal(states, entry) for entry in assignments[fits[-1] :]):
+    if any(contains(entry, other) for entry, other in permutations(own, 2)):
+        yield "a stored entry contains another"
+    if not all(minimal(states, entry) for entry in own[len(own) - result.learned :]):
         yield "a learned conflict is not minimal"
+    yield from check_survivors(result, own, offers)
 
 
 def check_shown(plant, assignment, own):

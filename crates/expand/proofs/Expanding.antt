@@ -17,7 +17,7 @@ use Rattle.theory.specs.Plant.{Sized}
 use Rattle.theory.specs.Words.{Words, Wide, wideOf}
 use Rattle.theory.specs.Tables.{Tabled}
 use Rattle.theory.proofs.Agreement.{valid-length}
-use Rattle.theory.proofs.Moves.{stored-conflicts}
+use Rattle.theory.proofs.Learned.{stored-conflicts}
 use Rattle.theory.proofs.Tables.{tabled-count, tabled-few, tabled-decisions, tabled-sized}
 use Rattle.store.specs.Store.{Keeps, Tells}
 use Rattle.store.specs.declared.Unresolved.{Unresolved}

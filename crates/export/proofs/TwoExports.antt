@@ -30,7 +30,7 @@ record Ran {sheet : List ℕ} (c : ExportCall sheet) : Type 0 where
   ending : Ending
   counts : Counts
   struck : Bool
-  promise : PromisedBy sheet (c .k) (c .before) (c .limit) (answered (ran ending counts)) (c .after) struck
+  promise : PromisedBy sheet (c .k) (c .before) (c .held) (c .limit) (answered (ran ending counts)) (c .after) struck
   count : counts .listed ≡ listed c
 
 module _ {sheet : List ℕ} where
@@ -44,7 +44,7 @@ module _ {sheet : List ℕ} where
       told : exportedOf (c .result) (c .after) (called .answer) ≡ exported (c .returned) (c .after) (c .words)
       told = c .ensures .1 .0
 
-      promise : PromisedBy sheet (c .k) (c .before) (c .limit) (called .answer) (c .after) (called .struck)
+      promise : PromisedBy sheet (c .k) (c .before) (c .held) (c .limit) (called .answer) (c .after) (called .struck)
       promise = c .ensures .1 .1
 
       go : (a : Answer) → called .answer ≡ a → Ran c

@@ -16,7 +16,7 @@ use Rattle.theory.specs.Words.{Words}
 
 -- the version of the exports: its three numbers, each but the first below 256
 abbrev pub version : ℕ
-version = 1 * 65536 + 0 * 256 + 0
+version = 1 * 65536 + 1 * 256 + 0
 
 -- ---- the listing
 
@@ -27,7 +27,7 @@ exported returned after result = record { returned = returned; after = after; re
 abbrev pub ExportPromises : (sheet : List ℕ) (k : ℕ) (before : Buffers) (held limit : ℕ) (result : List ℕ) → ℕ → Buffers → List ℕ → Type 0
 ExportPromises sheet k before held limit result returned after words =
     let called : Called = listingWith sheet k before held limit (ltb (length result) 6) in
-    (exportedOf result after (called .answer) ≡ exported returned after words) × PromisedBy sheet k before limit (called .answer) after (called .struck)
+    (exportedOf result after (called .answer) ≡ exported returned after words) × PromisedBy sheet k before held limit (called .answer) after (called .struck)
 
 -- ---- the test and the reduction
 

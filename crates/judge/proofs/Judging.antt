@@ -164,14 +164,14 @@ module _ {q : Question} {limit : ℕ} {queue store codes costs values : List ℕ
             },
           )
 
-      -- the conflict is appended to the store, and the queue is sieved by it
-      pub learn-conflict : {m x u : ℕ} → r ≡ Answer.Conflict m x u → (left : ℕ) (queue′ store′ : List ℕ) → length queue′ ≡ length queue
-          → ((d : ℕ) (conflicts : List Assignment) (c : Assignment) → Keeps d store (g .stored) conflicts → Words c m x → length c ≡ d → Keeps d store′ (g .stored + 1) (stored conflicts c))
+      -- the conflict is put into the store, and the queue is sieved by it
+      pub learn-conflict : {m x u : ℕ} → r ≡ Answer.Conflict m x u → (left places : ℕ) (queue′ store′ : List ℕ) → length queue′ ≡ length queue
+          → ((d : ℕ) (conflicts : List Assignment) (c : Assignment) → Keeps d store (g .stored) conflicts → Words c m x → length c ≡ d → Keeps d store′ places (stored conflicts c))
           → (left ≤ g .queued) × ((ss : List ℕ) (o : Order) (nodes : List Assignment) (c : Assignment) → Suits ss o → All (Valid ss) nodes → Words c m x → length c ≡ length ss
           → Holds o (g .queued) queue nodes → Holds o left queue′ (leaveOff (c ∷ []) nodes))
-          → NextIs q queue′ store′ codes costs values (After.More (progress left (g .stored + 1) (g .listed) (g .tested + 1) (g .learned + 1) (g .unkept) u)) after
+          → NextIs q queue′ store′ codes costs values (After.More (progress left places (g .listed) (g .tested + 1) (g .learned + 1) (g .unkept) u)) after
       unfolding learn
-      learn-conflict {m} {x} {u} e left queue′ store′ long appended sieved =
+      learn-conflict {m} {x} {u} e left places queue′ store′ long put-in sieved =
           let k : Reduces (q .plant) (reduce (q .plant) limit (t .parent) trials) (Answer.Conflict m x u) = rw e at h in
           let members = valid-length (decisionSizes (q .plant)) (k .0) (k .1 .valid) in
           rw (learn, lt-ltb (length (t .state .store)) (length store / 2) has-place, k .2) record {
@@ -179,7 +179,7 @@ module _ {q : Question} {limit : ℕ} {queue store codes costs values : List ℕ
                 (t .turn .standing .holds);
             room = omega (arith, long, sieved .0, t .turn .standing .room);
             written = record {
-              keeps = appended (length (q .plant .costs)) (t .state .store) (k .0) (written .keeps) (k .1 .words) (members ∙ length-map (q .plant .costs) length);
+              keeps = put-in (length (q .plant .costs)) (t .state .store) (k .0) (written .keeps) (k .1 .words) (members ∙ length-map (q .plant .costs) length);
               codes-are = written .codes-are;
               costs-are = written .costs-are;
               values-are = written .values-are;

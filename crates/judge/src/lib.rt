@@ -65,7 +65,7 @@ pub enum Next {
     Ended(Ending, Progress),
 }
 
-// Step 7 after a test that was inconsistent with so many trials: the node is unkept, or its conflict is learned and the queue nodes that manifest it are removed.
+// Step 7 after a test that was inconsistent with so many trials: the node is unkept, or its conflict is learned, and the stored ones that contain it and the queue nodes that manifest it are removed.
 fn learn(
     d: usize,
     sizes: &[u8],
@@ -109,11 +109,11 @@ fn learn(
     ) {
         Reduced::Spent(t) => Next::Ended(Ending::Spent, g.counted(t)),
         Reduced::Conflict(mask, values, t) => {
-            store::append(store, g.stored, mask, values);
+            let stored = subsumption::learn(store, g.stored, mask, values);
             let left = queue::sieve(queue, g.queued, mask, values);
             Next::More(Progress {
                 queued: left,
-                stored: g.stored + 1,
+                stored,
                 learned: g.learned + 1,
                 ..g.counted(t)
             })

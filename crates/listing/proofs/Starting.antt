@@ -104,7 +104,7 @@ module _ {d : ℕ} {sizes prices counts lits sat uses plan : List ℕ} {preferre
         let b = t .tables .tabled in
         record {
           survivors = survivors;
-          going = start-going (t .plant) (orderOf (t .plant)) (tabled-lawful b) (tabled-present b) (tabled-at-least b) k limit survivors used (s .conflicts) (s .within);
+          going = start-going (t .plant) (orderOf (t .plant)) (tabled-lawful b) (tabled-present b) (tabled-at-least b) k limit survivors used (s .conflicts) (s .apart) (s .within);
           standing = record { holds = h; room = omega (arith, t .room .queue-room); written = start-written k codes costs values 1 s };
           codes-room = t .room .codes-room;
           costs-room = t .room .costs-room;
@@ -134,13 +134,13 @@ module _ {d : ℕ} {sizes prices counts lits sat uses plan : List ℕ} {preferre
   abbrev offered : Checked
   offered = checkOffers (t .plant) limit [] (offersOf held store) 0
 
-  survived : Survived (t .plant) limit offered
-  survived = offers-survive (t .plant) (tabled-present (t .tables .tabled)) limit [] (offersOf held store) 0 tt (omega arith)
+  survived : Survived (t .plant) limit (offersOf held store) offered
+  survived = offers-survive (t .plant) (tabled-present (t .tables .tabled)) limit (offersOf held store)
 
   module _ {after : List ℕ} {m used : ℕ} where
     -- all were checked: the survivors are conflicts
     pub checked-survivors : (o : OfferedAs (t .plant) after (Offered.Checked m used) offered) → Survivors (t .plant) limit (o .0) used after m
-    checked-survivors o = let s : Survived (t .plant) limit (checked (o .0) used) = rw (o .2) at survived in record { keeps = o .1; conflicts = s .0; within = s .1 }
+    checked-survivors o = let s : Survived (t .plant) limit (offersOf held store) (checked (o .0) used) = rw (o .2) at survived in record { keeps = o .1; conflicts = s .0 .conflicts; apart = s .0 .apart; within = s .1 }
 
     -- and the listing is the run from there
     pub checked-ends : (f : Finished) (codes′ costs′ values′ : List ℕ) (o : OfferedAs (t .plant) after (Offered.Checked m used) offered) (store′ : List ℕ) → length after ≡ length store
@@ -157,10 +157,10 @@ module _ {d : ℕ} {sizes prices counts lits sat uses plan : List ℕ} {preferre
         (listing (t .plant) (orderOf (t .plant)) k (length queue / 2) (length store / 2) (offersOf held store) limit)
     unfolding listing
     broken-ends f o =
-        let s : Survived (t .plant) limit (brokenOff (o .0) used) = rw (o .2) at survived in
-        let within : used ≤ limit = omega (arith, s .1) in
+        let s : Survived (t .plant) limit (offersOf held store) (brokenOff (o .0) used) = rw (o .2) at survived in
+        let within : used ≤ limit = omega (arith, s .4) in
         record {
           state = start (decisionSizes (t .plant)) (o .0) used;
           ends = rw (listing, o .2);
-          written = rw f (start-written k codes costs values 0 (record { keeps = o .1; conflicts = s .0; within = within }));
+          written = rw f (start-written k codes costs values 0 (record { keeps = o .1; conflicts = s .3 .conflicts; apart = s .3 .apart; within = within }));
         }

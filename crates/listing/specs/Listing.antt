@@ -3,12 +3,13 @@ use mathlib.Core.Path.{_≡_}
 use mathlib.Core.List.{List}
 use Prim.Native.Nat.{ℕ, _*_, _≤_}
 use lib.ListN.{length, replicate}
-use Rattle.model.specs.Lists.{All, filled}
+use Rattle.model.specs.Lists.{All, Pairs, filled}
 use Rattle.model.specs.Sheet.{Plant}
 use Rattle.model.specs.Assignment.{Assignment}
 use Rattle.model.specs.Conflict.{Conflict}
 use Rattle.model.specs.Order.{orderOf}
 use Rattle.model.specs.Calls.{refused, answered, Buffers, Counts, ran, Answer, Called, stateBytes, entryWords, runOf, calledOf}
+use Rattle.theory.specs.Store.{Neither}
 use Rattle.store.specs.Store.{Keeps}
 use Rattle.refusal.specs.Refusal.{refusalOf}
 use Rattle.steps.specs.declared.Finished.{Finished}
@@ -44,10 +45,11 @@ pub record Lists (d : ℕ) (sizes prices counts lits sat uses plan : List ℕ) (
 abbrev pub first : (queued stored trials : ℕ) → Progress
 first queued stored trials = record { queued = queued; stored = stored; listed = 0; tested = 0; learned = 0; unkept = 0; trials = trials }
 
--- the store keeps the survivors of step 1, which are conflicts, and the trials are within the limit
+-- the store keeps the survivors of step 1, conflicts of which none contains another, and the trials are within the limit
 pub record Survivors (p : Plant) (limit : ℕ) (survivors : List Assignment) (used : ℕ) (store : List ℕ) (stored : ℕ) : Type 0 where
   pub keeps : Keeps (length (p .costs)) store stored survivors
   pub conflicts : All (Conflict p) survivors
+  pub apart : Pairs Neither survivors
   pub within : used ≤ limit
 
 -- ---- the answer

@@ -42,7 +42,7 @@ module _ (sheet : List ℕ) (k : ℕ) (b : Buffers) (held limit : ℕ) (short : 
 
 -- an answer and buffers that are those of the model's call keep its promise
 pub kept : (sheet : List ℕ) (k : ℕ) (b : Buffers) (held limit : ℕ) (short : Bool) {r : Answers} {after : Buffers} → CalledAs r after (listingWith sheet k b held limit short)
-    → PromisedBy sheet k b limit (answerOf r) after (listingWith sheet k b held limit short .struck)
+    → PromisedBy sheet k b held limit (answerOf r) after (listingWith sheet k b held limit short .struck)
 kept sheet k b held limit short h = rw (h .answer-is, h .after-is) (promised sheet k b held limit short)
 
 module _ (sheet : List ℕ) (k : ℕ) (b : Buffers) (held limit : ℕ) {r : Answers} {after : Buffers} (h : CalledAs r after (listingWith sheet k b held limit false)) where

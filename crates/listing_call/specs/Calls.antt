@@ -12,4 +12,4 @@ shown c = (c .answer, c .after)
 
 -- what is promised of a listing call, said of this very answer and these buffers
 abbrev pub Promises : (sheet : List ℕ) (k : ℕ) (before : Buffers) (held limit : ℕ) → Answers → Buffers → Type 0
-Promises sheet k before held limit r after = PromisedBy sheet k before limit (answerOf r) after (listingCall sheet k before held limit .struck)
+Promises sheet k before held limit r after = PromisedBy sheet k before held limit (answerOf r) after (listingCall sheet k before held limit .struck)

@@ -15,6 +15,7 @@ pub mod Edges
 pub mod Refusals
 pub mod Alone
 pub mod Shown
+pub mod Stores
 pub mod Exports
 pub mod Parts
 pub mod TableExamples

@@ -1,11 +1,11 @@
 -- Specification, "Listing": its steps 1 to 7 and the run. Assumes nothing: these are definitions.
-use mathlib.Core.Bool.{Bool, true, false, not}
+use mathlib.Core.Bool.{Bool, true, false, not, _&&_, _||_}
 use mathlib.Core.Option.{Option, none, some}
 use mathlib.Core.List.{List, [], _∷_, _++_, map}
 use Prim.Native.Nat.{ℕ, zero, suc, _+_, _*_}
 use lib.Dec.{ltb, eqb}
 use lib.ListN.{length}
-use Rattle.model.specs.Lists.{keep, anyOf, place, placeAll, valuesFrom}
+use Rattle.model.specs.Lists.{keepIf, keep, anyOf, place, placeAll, valuesFrom}
 use Rattle.model.specs.Sheet.{Plant, decisionSizes}
 use Rattle.model.specs.Assignment.{Assignment, wellFormed, assignmentOf, isFull, valueList}
 use Rattle.model.specs.Consistency.{Tested, consistent, inconsistent, test}
@@ -17,7 +17,7 @@ use Rattle.model.specs.Order.{Order, best}
 pub record State : Type 0 where
   -- the nodes that are queued, in the order of their best states
   pub queue : List Assignment
-  -- the stored conflicts: survivors of step 1, then those learned
+  -- the stored conflicts, of which none contains another: survivors of step 1 that were not pushed out, then those learned
   pub store : List Assignment
   -- the states listed, in the order of listing
   pub listed : List (List ℕ)
@@ -40,13 +40,26 @@ pub data Next : Type 0 where
 
 -- ---- the store
 
--- a conflict is put into the store: appended
-abbrev pub stored : List Assignment → Assignment → List Assignment
-stored store c = store ++ (c ∷ [])
-
 -- whether a node manifests a stored conflict
 abbrev pub manifestsAny : List Assignment → Assignment → Bool
 manifestsAny store n = anyOf (manifests n) store
+
+-- a learned conflict is put into the store: it first removes those that contain it, and is appended
+abbrev pub stored : List Assignment → Assignment → List Assignment
+stored store c = keep (λ d. not (manifests d c)) store ++ (c ∷ [])
+
+-- a conflict contains another that is not equal to it
+abbrev pub exceeds : Assignment → Assignment → Bool
+exceeds c d = manifests c d && not (manifests d c)
+
+-- of conflicts in their order, behind earlier ones: one that contains another is dropped, wherever the other stands, and of equal ones the first remains
+abbrev pub shortest : List Assignment → List Assignment → List Assignment
+shortest earlier [] = []
+shortest earlier (c ∷ later) = keepIf (not (manifestsAny earlier c || anyOf (exceeds c) later)) c (shortest (earlier ++ (c ∷ [])) later)
+
+-- of the offered entries found inconsistent those that survive
+abbrev pub survivorsOf : List Assignment → List Assignment
+survivorsOf found = shortest [] found
 
 -- the first stored conflict that a node does not resolve
 abbrev pub firstUnresolved : List Assignment → Assignment → Option Assignment
@@ -64,17 +77,17 @@ pub record Offer : Type 0 where
   pub values : ℕ
 
 module _ (p : Plant) (limit : ℕ) where
-  -- each offered entry is checked in order: well formed, and found inconsistent by a test; others are dropped
+  -- each offered entry is checked in order: well formed, and found inconsistent by a test; others are dropped, and of those found the ones that contain another
   unfoldable pub checkOffers : List Assignment → List Offer → ℕ → Checked
-  checkOffers survivors [] used = checked survivors used
-  checkOffers survivors (o ∷ offers) used =
+  checkOffers found [] used = checked (survivorsOf found) used
+  checkOffers found (o ∷ offers) used =
       elim (wellFormed (decisionSizes p) (o .mask) (o .values)) [
-        | false ↦ checkOffers survivors offers used
+        | false ↦ checkOffers found offers used
         | true ↦ let c : Assignment = assignmentOf (length (p .costs)) (o .mask) (o .values) in
             elim (test p limit c used) [
-              | consistent f t ↦ checkOffers survivors offers t
-              | inconsistent t ↦ checkOffers (stored survivors c) offers t
-              | Tested.spent t ↦ brokenOff survivors t
+              | consistent f t ↦ checkOffers found offers t
+              | inconsistent t ↦ checkOffers (found ++ (c ∷ [])) offers t
+              | Tested.spent t ↦ brokenOff (survivorsOf found) t
             ]
       ]
 

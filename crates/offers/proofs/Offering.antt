@@ -1,18 +1,22 @@
 -- Step 1, entry by entry: what one check leaves is what the model's check goes on with. Assumes nothing.
 use mathlib.Core.Path.{_≡_, _∙_}
 use mathlib.Core.Bool.{true, false}
-use mathlib.Core.List.{List, [], _∷_}
+use mathlib.Core.List.{List, [], _∷_, _++_}
 use Prim.Native.Nat.{ℕ, suc, _+_, _-_, _*_, _^_, _≤_, _<_}
 use native.Mathlib.Omega.{arith}
 use native.Mathlib.Nat.{sub-zero}
 use lib.ListN.{length, getD, take, drop, length-map}
 use lib.Seq.{drop-drop}
+use Rattle.model.specs.Lists.{Pairs}
 use Rattle.model.specs.Sheet.{Plant, decisionSizes}
 use Rattle.model.specs.Assignment.{Assignment, assignmentOf, wellFormed}
 use Rattle.model.specs.Consistency.{consistent, inconsistent, spent, test}
-use Rattle.model.specs.Listing.{stored, checkOffers}
+use Rattle.model.specs.Listing.{survivorsOf, checkOffers}
 use Rattle.model.specs.Calls.{offersOf}
 use Rattle.theory.specs.Tables.{Tabled}
+use Rattle.theory.specs.Store.{Neither, Long, admitted}
+use Rattle.theory.proofs.Lists.{all-join}
+use Rattle.theory.proofs.Store.{survivors-shortest, survivors-more}
 use Rattle.theory.proofs.Tables.{tabled-decisions, tabled-count, tabled-few}
 use Rattle.theory.proofs.Words.{well-formed-valid, well-formed-words}
 use Rattle.store.specs.Store.{Keeps}
@@ -61,9 +65,9 @@ module _ {p : Plant} {d : ℕ} {sizes prices counts lits : List ℕ} (t : Tabled
         valid = well-formed-valid (decisionSizes p) mask values w;
       }
 
-  module _ (limit held i : ℕ) (before : List ℕ) (survivors : List Assignment) (used m mask values : ℕ)
+  module _ (limit held i : ℕ) (before : List ℕ) (found : List Assignment) (used m mask values : ℕ)
       (within : i < held) (room : 2 * held ≤ length before) (em : mask ≡ getD before (2 * i) 0) (ev : values ≡ getD before (2 * i + 1) 0)
-      (keeps : Keeps (length (p .costs)) before m survivors) (few : m ≤ i) where
+      (long : Long (length (p .costs)) found) (keeps : Keeps (length (p .costs)) before m (survivorsOf found)) (few : m ≤ i) where
     -- the entry's assignment
     abbrev pub entry : Assignment
     entry = assignmentOf (length (p .costs)) mask values
@@ -72,58 +76,65 @@ module _ {p : Plant} {d : ℕ} {sizes prices counts lits : List ℕ} (t : Tabled
     next = offers-step held before i room within em ev
 
     -- the entry is not well formed
-    pub check-malformed : wellFormed (take d sizes) mask values ≡ false → CheckedOne p limit held i survivors used before before (Offered.Checked m used)
+    pub check-malformed : wellFormed (take d sizes) mask values ≡ false → CheckedOne p limit held i found used before before (Offered.Checked m used)
     unfolding checkOffers
     check-malformed e =
         let w : wellFormed (decisionSizes p) mask values ≡ false = rw (tabled-decisions t) e in
-        (survivors, keeps, rw (next, checkOffers, w))
+        (found, long, keeps, rw (next, checkOffers, w))
 
     module _ (e : wellFormed (take d sizes) mask values ≡ true) where
       w : wellFormed (decisionSizes p) mask values ≡ true
       w = rw (tabled-decisions t) e
 
       -- it is consistent
-      pub check-consistent : {f : List ℕ} {u : ℕ} → test p limit entry used ≡ consistent f u → CheckedOne p limit held i survivors used before before (Offered.Checked m u)
+      pub check-consistent : {f : List ℕ} {u : ℕ} → test p limit entry used ≡ consistent f u → CheckedOne p limit held i found used before before (Offered.Checked m u)
       unfolding checkOffers
-      check-consistent q = (survivors, keeps, rw (next, checkOffers, w, q))
+      check-consistent q = (found, long, keeps, rw (next, checkOffers, w, q))
 
       -- the limit struck
-      pub check-spent : {u : ℕ} → test p limit entry used ≡ spent u → CheckedOne p limit held i survivors used before before (Offered.BrokenOff m u)
+      pub check-spent : {u : ℕ} → test p limit entry used ≡ spent u → CheckedOne p limit held i found used before before (Offered.BrokenOff m u)
       unfolding checkOffers
       check-spent q = (keeps, rw (next, checkOffers, w, q))
 
-      -- it survives
-      pub check-inconsistent : {u : ℕ} (after : List ℕ) → test p limit entry used ≡ inconsistent u → Keeps (length (p .costs)) after (m + 1) (stored survivors entry)
-          → drop (2 * m + 2) after ≡ drop (2 * m + 2) before → CheckedOne p limit held i survivors used before after (Offered.Checked (m + 1) u)
+      -- it is found inconsistent: what it makes of the survivors is what one found more makes of them
+      pub check-inconsistent : {u n : ℕ} (after : List ℕ) → length entry ≡ length (p .costs) → test p limit entry used ≡ inconsistent u
+          → (Pairs Neither (survivorsOf found) → Keeps (length (p .costs)) after n (admitted (survivorsOf found) entry))
+          → drop (2 * m + 2) after ≡ drop (2 * m + 2) before → CheckedOne p limit held i found used before after (Offered.Checked n u)
       unfolding checkOffers
-      check-inconsistent {u} after q k s =
+      check-inconsistent {u} after l q k s =
           let e : offersFrom held after (i + 1) ≡ offersFrom held before (i + 1) = offers-kept held before after m i few s in
-          (stored survivors entry, k, rw (next, checkOffers, w, q, e))
+          let more : survivorsOf (found ++ (entry ∷ [])) ≡ admitted (survivorsOf found) entry = survivors-more (length (p .costs)) found long entry l in (
+            found ++ (entry ∷ []),
+            all-join (λ c. length c ≡ length (p .costs)) found (entry ∷ []) long (l, tt),
+            rw more (k (survivors-shortest (length (p .costs)) found long .apart)),
+            rw (next, checkOffers, w, q, e),
+          )
 
 -- ---- the loop
 
--- so many entries have been checked: the store keeps those that survived, and the check goes on behind them
+-- so many entries have been checked: the store keeps the survivors of those found inconsistent, and the check goes on behind them
 pub record CheckedTo (p : Plant) (limit held : ℕ) (start : List ℕ) (i : ℕ) (store : List ℕ) (m used : ℕ) : Type 0 where
-  pub survivors : List Assignment
-  pub keeps : Keeps (length (p .costs)) store m survivors
-  pub same : checkOffers p limit [] (offersOf held start) 0 ≡ checkOffers p limit survivors (offersFrom held store i) used
+  pub found : List Assignment
+  pub long : Long (length (p .costs)) found
+  pub keeps : Keeps (length (p .costs)) store m (survivorsOf found)
+  pub same : checkOffers p limit [] (offersOf held start) 0 ≡ checkOffers p limit found (offersFrom held store i) used
 
 module _ {p : Plant} {limit held : ℕ} {start : List ℕ} where
   pub checked-start : length (p .costs) ≤ 16 → CheckedTo p limit held start 0 start 0 0
-  checked-start h = record { survivors = []; keeps = keeps-none (length (p .costs)) start h; same = rw (offers-start held start) }
+  checked-start h = record { found = []; long = tt; keeps = keeps-none (length (p .costs)) start h; same = rw (offers-start held start) }
 
   module _ {i : ℕ} {store : List ℕ} {m used : ℕ} (h : CheckedTo p limit held start i store m used) where
-    pub checked-next : {after : List ℕ} {n u : ℕ} {r : Offered} → r ≡ Offered.Checked n u → CheckedOne p limit held i (h .survivors) used store after r → CheckedTo p limit held start (i + 1) after n u
+    pub checked-next : {after : List ℕ} {n u : ℕ} {r : Offered} → r ≡ Offered.Checked n u → CheckedOne p limit held i (h .found) used store after r → CheckedTo p limit held start (i + 1) after n u
     checked-next {after} {n} {u} {r} e one =
-        let o : CheckedOne p limit held i (h .survivors) used store after (Offered.Checked n u) = rw e at one in
-        record { survivors = o .0; keeps = o .1; same = h .same ∙ o .2 }
+        let o : CheckedOne p limit held i (h .found) used store after (Offered.Checked n u) = rw e at one in
+        record { found = o .0; long = o .1; keeps = o .2; same = h .same ∙ o .3 }
 
-    pub checked-broken : {after : List ℕ} {n u : ℕ} {r : Offered} → r ≡ Offered.BrokenOff n u → CheckedOne p limit held i (h .survivors) used store after r
+    pub checked-broken : {after : List ℕ} {n u : ℕ} {r : Offered} → r ≡ Offered.BrokenOff n u → CheckedOne p limit held i (h .found) used store after r
         → OfferedAs p after (Offered.BrokenOff n u) (checkOffers p limit [] (offersOf held start) 0)
     checked-broken {after} {n} {u} {r} e one =
-        let o : CheckedOne p limit held i (h .survivors) used store after (Offered.BrokenOff n u) = rw e at one in
-        (h .survivors, o .0, h .same ∙ o .1)
+        let o : CheckedOne p limit held i (h .found) used store after (Offered.BrokenOff n u) = rw e at one in
+        (survivorsOf (h .found), o .0, h .same ∙ o .1)
 
     pub checked-end : held ≤ i → OfferedAs p store (Offered.Checked m used) (checkOffers p limit [] (offersOf held start) 0)
     unfolding checkOffers
-    checked-end l = (h .survivors, h .keeps, h .same ∙ rw (offers-end held store i l))
+    checked-end l = (survivorsOf (h .found), h .keeps, h .same ∙ rw (offers-end held store i l))

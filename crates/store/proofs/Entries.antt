@@ -9,7 +9,6 @@ use lib.ListN.{length, getD, drop, set, length-append, length-set}
 use lib.Seq.{drop-cons, getD-take, take-suc-set, append-snoc}
 use Rattle.model.specs.Lists.{All}
 use Rattle.model.specs.Assignment.{Assignment, maskOf, valuesOf}
-use Rattle.model.specs.Listing.{stored}
 use Rattle.model.specs.Calls.{entryWords}
 use Rattle.theory.specs.Words.{Words, wideOf, Wide}
 use Rattle.theory.proofs.Lists.{all-join}
@@ -82,7 +81,7 @@ module _ {d : ℕ} {words : List ℕ} {m : ℕ} {conflicts : List Assignment} (k
 
   -- a widened mask and values written behind the entries are one more
   pub keeps-append : {c : Assignment} {mask values wide : ℕ} → Words c mask values → length c ≡ d → wide ≡ wideOf mask → 2 * m + 2 ≤ length words
-      → Keeps d (set (set words (2 * m) wide) (2 * m + 1) values) (m + 1) (stored conflicts c)
+      → Keeps d (set (set words (2 * m) wide) (2 * m + 1) values) (m + 1) (conflicts ++ (c ∷ []))
   keeps-append {c} {mask} {values} {wide} w l is h = record {
     narrow = k .narrow;
     count = omega (arith, k .count, length-append conflicts (c ∷ []));

@@ -65,7 +65,7 @@ module _ {sheet : List ℕ} where
   }
 
   -- the list of a run that keeps the promise
-  pub promised-list : {k limit : ℕ} {before after : Buffers} {e : Ending} {c : Counts} {struck : Bool} → PromisedBy sheet k before limit (answered (ran e c)) after struck
+  pub promised-list : {k held limit : ℕ} {before after : Buffers} {e : Ending} {c : Counts} {struck : Bool} → PromisedBy sheet k before held limit (answered (ran e c)) after struck
       → ListOn sheet (c .listed) (runList (c .listed) after)
   promised-list h = record { plant = h .0; end = h .1; says = h .2; begins = h .3 .begins; long = h .3 .as-counted }
 
@@ -79,7 +79,7 @@ module _ {sheet : List ℕ} where
       shows-unique (s .plant) (full (x .0)) _ _ (x .3) (rw states at (y .3))
 
   -- what a run that keeps the promise shows
-  pub promised-values : {k limit : ℕ} {before after : Buffers} {e : Ending} {c : Counts} {struck : Bool} → PromisedBy sheet k before limit (answered (ran e c)) after struck → ShownOn sheet (c .listed) after
+  pub promised-values : {k held limit : ℕ} {before after : Buffers} {e : Ending} {c : Counts} {struck : Bool} → PromisedBy sheet k before held limit (answered (ran e c)) after struck → ShownOn sheet (c .listed) after
   promised-values h = record { plant = h .0; end = h .1; says = h .2; shown = h .3 .shown }
 
 -- a run: a listing call on this sheet, with its answer, its counts and its list
@@ -103,8 +103,8 @@ listOf r = runList (r .counts .listed) (afterRun r)
 module _ (sheet : List ℕ) where
   -- demand 3 of a run
   pub run-promise : (r : RunOn sheet) → (p : Plant) × (end : ℕ) × (readSheet edition1 sheet ≡ got p end)
-      × Demand3 p (orderOf p) (r .k) (r .before) (r .limit) (r .ending) (r .counts) (afterRun r) (listingWith sheet (r .k) (r .before) (r .held) (r .limit) (r .resultShort) .struck)
-  run-promise r = subst (λ (a : Answer). PromisedBy sheet (r .k) (r .before) (r .limit) a (afterRun r) (listingWith sheet (r .k) (r .before) (r .held) (r .limit) (r .resultShort) .struck))
+      × Demand3 p (orderOf p) (r .k) (r .before) (r .held) (r .limit) (r .ending) (r .counts) (afterRun r) (listingWith sheet (r .k) (r .before) (r .held) (r .limit) (r .resultShort) .struck)
+  run-promise r = subst (λ (a : Answer). PromisedBy sheet (r .k) (r .before) (r .held) (r .limit) a (afterRun r) (listingWith sheet (r .k) (r .before) (r .held) (r .limit) (r .resultShort) .struck))
       (r .answers) (promised sheet (r .k) (r .before) (r .held) (r .limit) (r .resultShort))
 
   module _ (r s : RunOn sheet) where

@@ -1,5 +1,5 @@
 -- Demand 3 of every accepted call, and what follows for two runs. Assumes nothing.
-use mathlib.Core.Path.{_≡_, refl, sym, _∙_, ap}
+use mathlib.Core.Path.{_≡_, refl, sym, _∙_, ap, subst}
 use mathlib.Core.Logic.{_⊎_, inl, inr}
 use mathlib.Core.Bool.{Bool, true, false}
 use mathlib.Core.Option.{Option, none, some}
@@ -8,17 +8,19 @@ use Prim.Native.Nat.{ℕ, zero, suc, _*_, _/_, _≤_, _<_}
 use native.Mathlib.Omega.{arith}
 use borrow.Author.Tests.{ltb-false}
 use lib.Dec.{ltb}
-use lib.ListN.{length, getD, take, length-map}
+use lib.ListN.{length, getD, take, replicate, length-map}
 use Rattle.model.specs.Lists.{Some, Mem, All, Pairs, Begins, filled, inTurn}
 use Rattle.model.specs.Sheet.{Plant, Read, got, edition1, readSheet, decisionSizes, sizes}
 use Rattle.model.specs.Assignment.{Assignment, code, full}
+use Rattle.model.specs.Conflict.{Conflict}
 use Rattle.model.specs.Order.{Order, Before, orderOf, Entry, entryOf, leadingStates, wholeSet}
 use Rattle.model.specs.Listing.{State, Ending, ended}
-use Rattle.model.specs.Calls.{Ground, firstGiven, odd, refused, Buffers, hostGrounds, offersOf, stateBytes, valueBytes, buffersAfter, countsOf, entriesOf, runList, calledOf, runOf, listingWith}
+use Rattle.model.specs.Calls.{Ground, firstGiven, odd, refused, Buffers, hostGrounds, offersOf, stateBytes, valueBytes, entryWords, buffersAfter, countsOf, entriesOf, runList, calledOf, runOf, listingWith}
 use Rattle.theory.specs.BestFirst.{Inv}
 use Rattle.theory.specs.Plant.{Accepted, Sized}
 use Rattle.theory.specs.Order.{In, Lawful}
-use Rattle.theory.specs.Run.{Good, Done}
+use Rattle.theory.specs.Store.{offeredIn, Remembered, FromOffers}
+use Rattle.theory.specs.Run.{Good, Stored, Overfull, Done}
 use Rattle.theory.specs.Demand3.{Demand3, Promised}
 use Rattle.theory.proofs.Lists.{at-member, all-at, all-map, all-image, or-neither}
 use Rattle.theory.proofs.Filled.{filled-take, filled-drop, filled-at}
@@ -28,6 +30,8 @@ use Rattle.theory.proofs.Whole.{leading-sound, leading-complete, leadin
 use Rattle.theory.proofs.Order.{code-injective, cost-lawful}
 use Rattle.theory.proofs.Sheet.{accepted}
 use Rattle.theory.proofs.Test.{accepted-present}
+use Rattle.theory.proofs.Store.{among-all, among-trans}
+use Rattle.theory.proofs.Learned.{stored-places, stored-remembers}
 use Rattle.theory.proofs.Listing.{listing-done}
 use Rattle.theory.proofs.Shown.{accepted-few, shown-bytes, shown-at}
 
@@ -89,7 +93,8 @@ module _ {A : Type 0} (d : A) where
 -- ---- demand 3 of a finished run
 
 module _ (p : Plant) (o : Order) (law : Lawful (decisionSizes p) o) (short : length (decisionSizes p) ≤ 16) (small : All (λ s. s ≤ 16) (decisionSizes p)) (few : length (sizes p) ≤ stateBytes) where
-  module _ (k limit : ℕ) (survivors : List Assignment) (b : Buffers) (e : Ending) (s : State) (done : Done p o k limit survivors (length (b .queue) / 2) e s) where
+  module _ (k held limit : ℕ) (survivors : List Assignment) (b : Buffers) (e : Ending) (s : State) (done : Done p o k limit survivors (length (b .queue) / 2) e s)
+      (from : FromOffers p (offersOf held (b .store)) e survivors) where
     -- the search at its end
     search : Inv (Before o) (In (decisionSizes p)) (Good p) (s .queue) (s .listed)
     search = done .kept .searching .search
@@ -106,11 +111,15 @@ module _ (p : Plant) (o : Order) (law : Lawful (decisionSizes p) o) (short : len
         go (inl m) = earlier [] (Before o) (law .irreflexive) (law .transitive) f (s .listed) (search .ascending) m i h r
         go (inr q) = absurd (law .irreflexive f (law .transitive f (getD (s .listed) i []) f r (all-at [] (λ x. Before o x f) (s .listed) (search .before f q) i h)))
 
+    -- the store at its end
+    abbrev store : Stored p survivors (s .learned) (s .store)
+    store = done .kept .store
+
     -- as many bytes are written as show the states
     values-after : length (inTurn valueBytes (s .shown)) ≡ stateBytes * length (s .listed)
     values-after = shown-bytes p few (s .listed) (s .shown) (done .kept .shown)
 
-    pub demand3-done : Demand3 p o k b limit e (countsOf s) (buffersAfter o b s) (s .struck)
+    pub demand3-done : Demand3 p o k b held limit e (countsOf s) (buffersAfter o b s) (s .struck)
     unfolding wholeSet buffersAfter
     demand3-done = record {
       begins = rw (run-list o b s) (begins-map (entryOf o) (s .listed) (leadingStates p o) (states-begin p o law search));
@@ -129,17 +138,20 @@ module _ (p : Plant) (o : Order) (law : Lawful (decisionSizes p) o) (short : len
           (t .0, t .1, filled-at code (s .listed) (b .codes) [] (t .0) (omega (arith, t .1)) ∙ ap code (t .2));
       shown = λ i h. (getD (s .listed) i [], state-at i h .0, filled-at code (s .listed) (b .codes) [] i h, shown-at p few (s .listed) (s .shown) (done .kept .shown) _ i h);
       stored = record {
-        survivors = survivors;
-        since = done .kept .store .since;
-        words = rw (done .kept .store .parts);
-        counted = done .kept .store .count;
-        conflicts = done .kept .store .offered;
-        minimal = done .kept .store .minimal;
+        survivors = store .left;
+        since = store .since;
+        words = ap (λ (r : List Assignment). filled (entryWords r) (replicate (length (b .store)) 0)) (store .parts);
+        counted = store .count;
+        conflicts = among-all (Conflict p) (store .left) survivors (store .among) (store .offered);
+        minimal = store .minimal;
+        apart = stored-places p store;
+        offered = among-trans (store .left) survivors (offeredIn p (offersOf held (b .store))) (store .among) (from .offered);
       };
+      remembered = λ n. subst (Remembered p (offersOf held (b .store))) (store .parts) (stored-remembers p store (offersOf held (b .store)) (from .remembered n));
       tested-most = done .kept .tested;
       trials-most = done .kept .trials;
       full-small = done .full-small;
-      full-why = λ q. (s .listed, run-list o b s, rw (done .kept .store .parts) at (done .full-why q));
+      full-why = λ q. (s .listed, run-list o b s, subst (λ (r : List Assignment). Overfull p o (length (b .queue) / 2) r (s .listed)) (store .parts) (done .full-why q));
       codes-kept = rw (← length-map (s .listed) code) (filled-drop (map code (s .listed)) (b .codes));
       costs-kept = rw (← length-map (s .listed) (o .figure)) (filled-drop (map (o .figure) (s .listed)) (b .costs));
       values-kept = rw (← values-after) (filled-drop (inTurn valueBytes (s .shown)) (b .values));
@@ -179,21 +191,21 @@ module _ (sheet : List ℕ) (p : Plant) (end : ℕ) (e : readSheet edition1 shee
   module _ (k : ℕ) (b : Buffers) (room : 2 ≤ length (b .queue)) (held limit : ℕ) where
     -- an accepted call's run ends
     pub call-done : (survivors : List Assignment) × (ending : Ending) × (s : State) × (runOf p k b held limit ≡ ended ending s)
-        × Done p (orderOf p) k limit survivors (length (b .queue) / 2) ending s
+        × Done p (orderOf p) k limit survivors (length (b .queue) / 2) ending s × FromOffers p (offersOf held (b .store)) ending survivors
     unfolding runOf
     call-done = listing-done p (orderOf p) sheet-lawful (accepted-present edition1 p sheet-accepted) sheet-at-least k limit
         (length (b .queue) / 2) (length (b .store) / 2) (omega arith) (offersOf held (b .store))
 
     -- and demand 3 holds of it
     pub run-demand3 : (ending : Ending) × (s : State) × (runOf p k b held limit ≡ ended ending s)
-        × Demand3 p (orderOf p) k b limit ending (countsOf s) (buffersAfter (orderOf p) b s) (s .struck)
+        × Demand3 p (orderOf p) k b held limit ending (countsOf s) (buffersAfter (orderOf p) b s) (s .struck)
     run-demand3 =
         let r = call-done in (
           r .1,
           r .2,
           r .3,
           demand3-done p (orderOf p) sheet-lawful sheet-codes sheet-small sheet-few
-              k limit (r .0) b (r .1) (r .2) (r .4),
+              k held limit (r .0) b (r .1) (r .2) (r .4) (r .5),
         )
 
 -- where no ground is given, neither is the first nor any other
@@ -216,11 +228,11 @@ queue-given k b held resultShort e =
     ltb-false (length (b .queue)) 2 (or-neither (odd (length (b .queue))) (ltb (length (b .queue)) 2) (or-neither _ _ (queue .0) .0) .1)
 
 -- whatever is asked, a refusal changes nothing, and anything else is a run of which demand 3 holds
-pub promised : (sheet : List ℕ) (k : ℕ) (b : Buffers) (held limit : ℕ) (resultShort : Bool) → Promised sheet k b limit (listingWith sheet k b held limit resultShort)
+pub promised : (sheet : List ℕ) (k : ℕ) (b : Buffers) (held limit : ℕ) (resultShort : Bool) → Promised sheet k b held limit (listingWith sheet k b held limit resultShort)
 unfolding listingWith calledOf
 promised sheet k b held limit resultShort = go (firstGiven (hostGrounds k b held resultShort)) refl (readSheet edition1 sheet) refl
   where
-    go : (h : Option ℕ) → firstGiven (hostGrounds k b held resultShort) ≡ h → (r : Read Plant) → readSheet edition1 sheet ≡ r → Promised sheet k b limit (listingWith sheet k b held limit resultShort)
+    go : (h : Option ℕ) → firstGiven (hostGrounds k b held resultShort) ≡ h → (r : Read Plant) → readSheet edition1 sheet ≡ r → Promised sheet k b held limit (listingWith sheet k b held limit resultShort)
     go (some n) q r e = rw (listingWith, q) refl
     go none q (Read.refused n) e = rw (listingWith, q, e) refl
     go none q (got p end) e =

@@ -24,8 +24,8 @@ strikes-most : (b : Bool) → strikes b ≤ 1
 strikes-most true = omega arith
 strikes-most false = omega arith
 
-module _ {p : Plant} {o : Order} {k : ℕ} {before : Buffers} {limit : ℕ} {e : Ending} {c : Counts} {after : Buffers} {struck : Bool}
-    (d : Demand3 p o k before limit e c after struck) where
+module _ {p : Plant} {o : Order} {k : ℕ} {before : Buffers} {held limit : ℕ} {e : Ending} {c : Counts} {after : Buffers} {struck : Bool}
+    (d : Demand3 p o k before held limit e c after struck) where
   -- a tally two too high
   pub no-invented-tally : c .tested ≡ c .listed + c .learned + c .unkept + 2 → ⊥
   no-invented-tally h = omega (arith, d .sum, strikes-most struck)
@@ -72,8 +72,8 @@ second = record { code = 0x1000000000000000; figure = 3 }
 abbrev third : Entry
 third = record { code = 0x1100000000000000; figure = 6 }
 
-module _ {k : ℕ} {before : Buffers} {limit : ℕ} {e : Ending} {c : Counts} {after : Buffers} {struck : Bool}
-    (d : Demand3 smallPlant (orderOf smallPlant) k before limit e c after struck) where
+module _ {k : ℕ} {before : Buffers} {held limit : ℕ} {e : Ending} {c : Counts} {after : Buffers} {struck : Bool}
+    (d : Demand3 smallPlant (orderOf smallPlant) k before held limit e c after struck) where
   -- its lists begin these three
   begins-three : {xs : List Entry} → runList (c .listed) after ≡ xs → Begins xs (first ∷ second ∷ third ∷ [])
   begins-three {xs} h = rw (h, small-whole) at (d .begins)

@@ -14,6 +14,7 @@ pub mod Fields
 pub mod Filled
 pub mod Impostors
 pub mod LastState
+pub mod Learned
 pub mod Listing
 pub mod Lists
 pub mod Longest
@@ -31,6 +32,7 @@ pub mod Run
 pub mod Search
 pub mod Sheet
 pub mod Shown
+pub mod Store
 pub mod Refusals
 pub mod TableClauses
 pub mod Tables

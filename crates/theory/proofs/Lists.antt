@@ -57,6 +57,12 @@ module _ {A : Type 0} where
   meet P Q (x ∷ xs) a (inl q) = (x, a .0, q)
   meet P Q (x ∷ xs) a (inr s) = meet P Q xs (a .1) s
 
+  -- what holds of a member holds of some
+  pub member-some : (P : A → Type 0) (xs : List A) (x : A) → Mem x xs → P x → Some P xs
+  member-some P [] x m p = absurd m
+  member-some P (y ∷ xs) x (inl e) p = inl (rw e at p)
+  member-some P (y ∷ xs) x (inr m) p = inr (member-some P xs x m p)
+
   pub from-members : {P : A → Type 0} (xs : List A) → ((x : A) → Mem x xs → P x) → All P xs
   from-members [] h = tt
   from-members (x ∷ xs) h = (h x (inl refl), from-members xs (λ y m. h y (inr m)))
@@ -201,6 +207,11 @@ sum-ones (x ∷ xs) = omega (arith, sum-ones xs)
 pub keep-length : {A : Type 0} (test : A → Bool) (xs : List A) → length (keep test xs) ≤ length xs
 keep-length test xs = omega (arith, sum-keep (λ x. 1) test xs, sum-ones xs, sum-ones (keep test xs))
 
+-- where all pass the test, all are kept
+pub keep-all : {A : Type 0} (test : A → Bool) (xs : List A) → All (λ x. test x ≡ true) xs → keep test xs ≡ xs
+keep-all test [] a = refl
+keep-all {A} test (x ∷ xs) a = rw (a .0) (ap (λ (r : List A). x ∷ r) (keep-all test xs (a .1)))
+
 -- where a member fails the test, fewer are kept
 pub keep-fewer : {A : Type 0} (test : A → Bool) (xs : List A) → Some (λ x. test x ≡ false) xs → length (keep test xs) < length xs
 keep-fewer test [] s = absurd s
@@ -227,6 +238,13 @@ pub all-at : {A : Type 0} (d : A) (P : A → Type 0) (xs : List A) → All P xs 
 all-at d P [] a i h = absurd (omega arith)
 all-at d P (x ∷ xs) a zero h = a .0
 all-at d P (x ∷ xs) a (suc i) h = all-at d P xs (a .1) i (omega arith)
+
+-- what holds of each member and each later one holds at any two places, the first before the second
+pub pairs-at : {A : Type 0} (d : A) (R : A → A → Type 0) (xs : List A) → Pairs R xs → (i j : ℕ) → i < j → j < length xs → R (getD xs i d) (getD xs j d)
+pairs-at d R [] p i j h l = absurd (omega arith)
+pairs-at d R (x ∷ xs) p i zero h l = absurd (omega arith)
+pairs-at d R (x ∷ xs) p zero (suc j) h l = all-at d (R x) xs (p .0) j (omega arith)
+pairs-at d R (x ∷ xs) p (suc i) (suc j) h l = pairs-at d R xs (p .1) i j (omega arith) (omega arith)
 
 -- one is replaced by another of which it holds
 pub all-set : {A : Type 0} (P : A → Type 0) (xs : List A) (i : ℕ) (x : A) → P x → All P xs → All P (set xs i x)

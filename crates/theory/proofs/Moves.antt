@@ -3,7 +3,7 @@ use mathlib.Core.Path.{_≡_, refl, sym, _∙_, ap}
 use mathlib.Core.Logic.{inl, inr}
 use mathlib.Core.Bool.{Bool, true, false, not, false≢true}
 use mathlib.Core.Option.{none, some}
-use mathlib.Core.List.{List, [], _∷_, _++_, append-nil, append-assoc}
+use mathlib.Core.List.{List, [], _∷_, _++_, append-nil}
 use Prim.Native.Nat.{ℕ, _+_}
 use native.Mathlib.Omega.{arith}
 use lib.Dec.{T}
@@ -12,13 +12,13 @@ use Rattle.model.specs.Lists.{All, anyOf}
 use Rattle.model.specs.Sheet.{Plant, decisionSizes}
 use Rattle.model.specs.Assignment.{Assignment, Fits, Valid, Agree, isFull, valueList, full}
 use Rattle.model.specs.Consistency.{Consistent}
-use Rattle.model.specs.Conflict.{Conflict, Minimal, manifests, resolves}
+use Rattle.model.specs.Conflict.{Conflict, manifests, resolves}
 use Rattle.model.specs.Order.{Order, Before, best}
-use Rattle.model.specs.Listing.{manifestsAny, leaveOff, stored, unassigned, enqueueAll, branching, resolving}
+use Rattle.model.specs.Listing.{manifestsAny, leaveOff, unassigned, enqueueAll, branching, resolving}
 use Rattle.theory.specs.BestFirst.{Apart, Inv}
 use Rattle.theory.specs.Order.{In, Lawful}
 use Rattle.theory.specs.Nodes.{room}
-use Rattle.theory.specs.Run.{Good, Stored, Children, Searching}
+use Rattle.theory.specs.Run.{Good, Children, Searching}
 use Rattle.theory.proofs.Lists.{some-map, some-keep, all-map, all-zip, all-join, all-keep, pairs-map, pairs-keep, pairs-swap, sum-keep}
 use Rattle.theory.proofs.BestFirst as first
 use Rattle.theory.proofs.Nodes.{full-one, full-best, best-least, full-room, unassigned-all, unassigned-valid, unassigned-room, branching-inside, branching-apart, branching-valid, branching-covers, branching-weight, branching-room, resolving-inside, resolving-apart, resolving-valid, resolving-covers, resolving-weight, resolving-room}
@@ -52,21 +52,6 @@ module _ (p : Plant) where
       go : (b : Bool) → manifests n c ≡ b → T (not (manifestsAny store n)) → T (not (manifestsAny (c ∷ store) n))
       go true e t = absurd (good-free f g n i c (a .0) e)
       go false e t = rw (e, manifestsAny, anyOf) t
-
-  -- each stored entry is a conflict
-  pub stored-conflicts : {survivors : List Assignment} {learned : ℕ} {store : List Assignment} → Stored p survivors learned store → All (Conflict p) store
-  stored-conflicts {survivors} s = rw (s .parts) (all-join (Conflict p) survivors (s .since) (s .offered) (all-map (λ c m. m .conflict) (s .since) (s .minimal)))
-
-  -- a learned conflict is stored behind the others
-  pub stored-more : {survivors : List Assignment} {learned : ℕ} {store : List Assignment} (c : Assignment) → Minimal p c
-      → Stored p survivors learned store → Stored p survivors (learned + 1) (stored store c)
-  stored-more {survivors} c m s = record {
-    since = s .since ++ (c ∷ []);
-    parts = rw (s .parts) (append-assoc survivors (s .since) (c ∷ []));
-    count = simp length-append (omega (arith, s .count));
-    offered = s .offered;
-    minimal = all-join (Minimal p) (s .since) (c ∷ []) (s .minimal) (m, tt);
-  }
 
 -- ---- the two ways to expand
 

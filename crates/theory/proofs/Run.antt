@@ -13,7 +13,7 @@ use Rattle.model.specs.Lists.{All}
 use Rattle.model.specs.Sheet.{Plant, decisionSizes}
 use Rattle.model.specs.Assignment.{Assignment, isFull, valueList, full}
 use Rattle.model.specs.Consistency.{Consistent, Tested, consistent, inconsistent, test}
-use Rattle.model.specs.Conflict.{Conflict, Minimal, resolves, Reduced, conflict, reduce}
+use Rattle.model.specs.Conflict.{Conflict, Minimal, manifests, resolves, Reduced, conflict, reduce}
 use Rattle.model.specs.Order.{Order}
 use Rattle.model.specs.Listing.{State, Ending, Next, ended, more, weight, manifestsAny, firstUnresolved, resolving, branching, leaveOff, listedOne, unkeptOne, learnedOne, spentInTest, spentInReduction, mostTested, putChildren, learn, judge, expand, remove, step, run}
 use Rattle.model.specs.Calls.{valueBytes}
@@ -26,10 +26,11 @@ use Rattle.theory.proofs.Lists.{sum-keep, keep-length}
 use Rattle.theory.proofs.Nodes.{weight-pos, rooms-length}
 use Rattle.theory.proofs.Test.{test-consistent, test-inconsistent}
 use Rattle.theory.proofs.TestTrials.{test-trials, test-spent-at}
-use Rattle.theory.proofs.Reduction.{reduce-minimal}
+use Rattle.theory.proofs.Reduction.{reduce-minimal, reduce-contained}
 use Rattle.theory.proofs.ReductionTrials.{reduce-trials, reduce-spent-at}
 use Rattle.theory.proofs.Shown.{each-more, test-shows}
-use Rattle.theory.proofs.Moves.{full-values, stored-conflicts, stored-more, branching-children, resolving-children, searching-put, searching-sieve, searching-drop, searching-list}
+use Rattle.theory.proofs.Learned.{stored-conflicts, stored-more}
+use Rattle.theory.proofs.Moves.{full-values, branching-children, resolving-children, searching-put, searching-sieve, searching-drop, searching-list}
 use Rattle.theory.proofs.Queue.{enqueueAll-length, enqueueAll-sum}
 
 -- two endings are not the same
@@ -107,14 +108,14 @@ module _ (p : Plant) (o : Order) (law : Lawful (decisionSizes p) o) (present : V
           omega (arith, fitted),
         )
 
-        -- step 7, inconsistent and learned
-        step-learned : (c : Assignment) (t : ℕ) → t ≤ limit → Minimal p c → Stepped p o k limit survivors entries s (more (learnedOne s rest c t))
-        step-learned c t h m = (
+        -- step 7, inconsistent and learned, of a node that resolves all stored conflicts
+        step-learned : (c : Assignment) (t : ℕ) → t ≤ limit → firstUnresolved (s .store) n ≡ none → manifests n c ≡ true → Minimal p c → Stepped p o k limit survivors entries s (more (learnedOne s rest c t))
+        step-learned c t h e inside m = (
           record {
             kept = record {
               searching = searching-sieve p o law (c ∷ []) (m .conflict, tt) (searching-drop p o law front whole bad);
               shown = g .kept .shown;
-              store = stored-more p c m (g .kept .store);
+              store = stored-more p n c (front .valid .0) e inside m (g .kept .store);
               sum = rw (g .unstruck) (omega (arith, sum));
               tested = omega arith;
               trials = h;
@@ -127,14 +128,14 @@ module _ (p : Plant) (o : Order) (law : Lawful (decisionSizes p) o) (present : V
         )
 
         -- step 7, inconsistent: the reduction
-        learn-stepped : (t : ℕ) → t ≤ limit → Stepped p o k limit survivors entries s (learn p o k entries places limit s rest n t)
+        learn-stepped : (t : ℕ) → t ≤ limit → firstUnresolved (s .store) n ≡ none → Stepped p o k limit survivors entries s (learn p o k entries places limit s rest n t)
         unfolding learn
-        learn-stepped t h = go (ltb (length (s .store)) places) refl (reduce p limit n t) refl
+        learn-stepped t h resolved = go (ltb (length (s .store)) places) refl (reduce p limit n t) refl
           where
             go : (b : Bool) → ltb (length (s .store)) places ≡ b → (r : Reduced) → reduce p limit n t ≡ r → Stepped p o k limit survivors entries s (learn p o k entries places limit s rest n t)
             go false e r f = rw (learn, e) (step-unkept t h)
             go true e (conflict c t′) f = rw (learn, e, f)
-                (step-learned c t′ (rw f at (reduce-trials p limit n t .within h)) (reduce-minimal p present limit n (front .valid .0) bad t c t′ f))
+                (step-learned c t′ (rw f at (reduce-trials p limit n t .within h)) resolved (reduce-contained p limit n t c t′ f .1) (reduce-minimal p present limit n (front .valid .0) bad t c t′ f))
             go true e (Reduced.spent t′) f = rw (learn, e, f) (spent-done (spentInReduction s t′) (record {
               searching = g .kept .searching;
               shown = g .kept .shown;
@@ -146,9 +147,9 @@ module _ (p : Plant) (o : Order) (law : Lawful (decisionSizes p) o) (present : V
             }) (inl (reduce-spent-at p limit n t h t′ f)))
 
     -- step 7
-    judge-stepped : isFull n ≡ true → length (s .listed) < k → Stepped p o k limit survivors entries s (judge p o k entries places limit s rest n)
+    judge-stepped : isFull n ≡ true → firstUnresolved (s .store) n ≡ none → length (s .listed) < k → Stepped p o k limit survivors entries s (judge p o k entries places limit s rest n)
     unfolding judge
-    judge-stepped whole room = go (ltb (s .tested) mostTested) refl (test p limit n (s .trials)) refl
+    judge-stepped whole resolved room = go (ltb (s .tested) mostTested) refl (test p limit n (s .trials)) refl
       where
         go : (b : Bool) → ltb (s .tested) mostTested ≡ b → (r : Tested) → test p limit n (s .trials) ≡ r → Stepped p o k limit survivors entries s (judge p o k entries places limit s rest n)
         go false e r f = rw (judge, e) (spent-done s (g .kept) (inr (omega (arith, ltb-false (s .tested) mostTested e, g .kept .tested))))
@@ -158,7 +159,7 @@ module _ (p : Plant) (o : Order) (law : Lawful (decisionSizes p) o) (present : V
             (test-shows p n present (front .valid .0) limit (s .trials) w t f))
         go true e (inconsistent t) f = rw (judge, e, f)
             (learn-stepped whole (ltb-true _ _ e) room (test-inconsistent p present limit n (front .valid .0) (s .trials) t f) t
-            (rw f at (test-trials p limit n (s .trials) .within (g .kept .trials))))
+            (rw f at (test-trials p limit n (s .trials) .within (g .kept .trials))) resolved)
         go true e (Tested.spent t) f = rw (judge, e, f) (spent-done (spentInTest s t) (record {
           searching = g .kept .searching;
           shown = g .kept .shown;
@@ -230,7 +231,7 @@ module _ (p : Plant) (o : Order) (law : Lawful (decisionSizes p) o) (present : V
         go (some c) e b f =
             let h = unresolved (s .store) (stored-conflicts p (g .kept .store)) c e in
             rw (expand, e) (put-stepped sized (resolving (decisionSizes p) n c) (rw (childrenOf, e)) (resolving-children p n (front .valid .0) c (h .0) (h .1)))
-        go none e true f = rw (expand, e, f) (judge-stepped f room)
+        go none e true f = rw (expand, e, f) (judge-stepped f e room)
         go none e false f = rw (expand, e, f) (put-stepped sized (branching (decisionSizes p) n) (rw (childrenOf, e)) (branching-children p n (front .valid .0) f))
 
   module _ (sized : All (λ m. 1 ≤ m) (decisionSizes p)) where

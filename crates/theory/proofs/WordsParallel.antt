@@ -6,7 +6,7 @@ use mathlib.Core.List.{List, [], _∷_, _++_, map, map-append, map-map}
 use Prim.Native.Nat.{ℕ, zero, suc, _+_, _-_, _*_, _^_, _≤_, _<_}
 use native.Mathlib.Omega.{arith}
 use native.Mathlib.Nat.{mod-eq-of-lt}
-use lib.Bits.{bitAnd, bitOr, bitXor, and-lt, xor-lt, and-zero-r, xor-self, and-mask, and-le-l, and-le-r, xor-add-and}
+use lib.Bits.{bitAnd, bitOr, bitXor, and-lt, or-lt, xor-lt, and-zero-r, or-zero-r, xor-self, xor-comm, and-mask, and-le-l, and-le-r, or-add-and, xor-add-and}
 use lib.Dec.{eqb}
 use lib.ListN.{length, replicate, length-map}
 use borrow.Author.Tests.{eq-eqb, ne-eqb, eqb-true, eqb-false}
@@ -135,6 +135,13 @@ contains-nibble o none u t = rw (and-zero-r (spread o), and-zero-r (bitXor (nibb
 contains-nibble none (some y) u t = ne-eqb (bitOr 15 (bitAnd (bitXor 0 y) 15)) 0 (λ e. omega arith)
 contains-nibble (some x) (some y) u t = masked-zero x y u t
 
+-- the same from whether the two are the same, value and mask
+apart-nibble : (o p : Option ℕ) → Under 16 o → Under 16 p
+    → eqb (bitAnd (bitOr (bitXor (nibble o) (nibble p)) (bitXor (spread o) (spread p))) (spread p)) 0 ≡ contains o p
+apart-nibble o none u t = rw (and-zero-r (bitOr (bitXor (nibble o) 0) (bitXor (spread o) 0)))
+apart-nibble none (some y) u t = rw (whole (bitOr y 15) (or-lt 4 y 15 t (omega arith))) (ne-eqb (bitOr y 15) 0 (λ e. omega (arith, or-add-and y 15, and-le-l y 15)))
+apart-nibble (some x) (some y) u t = rw (or-zero-r (bitXor x y)) (masked-zero x y u t)
+
 -- a nibble that is other than zero exactly where the variable differs from the conflict's
 differs-nibble : (o p : Option ℕ) → Under 16 o → Under 16 p → not (eqb (bitAnd (bitAnd (bitXor (nibble o) (nibble p)) (spread o)) (spread p)) 0) ≡ differs o p
 differs-nibble none p u t = rw (and-zero-r (bitXor 0 (nibble p)))
@@ -153,6 +160,10 @@ module _ (n c : Assignment) where
   abbrev missing : List ℕ
   missing = each bitOr (each bitXor (each bitAnd (map spread n) (map spread c)) (map spread c)) (each bitAnd (each bitXor (map nibble n) (map nibble c)) (map spread c))
 
+  -- the same from where the two are not the same, values and masks
+  abbrev apart : List ℕ
+  apart = each bitAnd (each bitOr (each bitXor (map nibble n) (map nibble c)) (each bitXor (map spread n) (map spread c))) (map spread c)
+
   -- the nibbles that are other than zero where a node resolves a conflict
   abbrev differing : List ℕ
   differing = each bitAnd (each bitAnd (each bitXor (map nibble n) (map nibble c)) (map spread n)) (map spread c)
@@ -163,6 +174,13 @@ missing-all [] [] e s t = refl
 missing-all [] (p ∷ c) e s t = absurd (omega arith)
 missing-all (o ∷ n) [] e s t = absurd (omega arith)
 missing-all (o ∷ n) (p ∷ c) e s t = ap₂ _&&_ (contains-nibble o p (s .0) (t .0)) (missing-all n c (omega arith) (s .1) (t .1))
+
+-- the two are the same where the conflict is assigned exactly when the node manifests it
+apart-all : (n c : Assignment) → length n ≡ length c → All (Under 16) n → All (Under 16) c → allZero (apart n c) ≡ manifests n c
+apart-all [] [] e s t = refl
+apart-all [] (p ∷ c) e s t = absurd (omega arith)
+apart-all (o ∷ n) [] e s t = absurd (omega arith)
+apart-all (o ∷ n) (p ∷ c) e s t = ap₂ _&&_ (apart-nibble o p (s .0) (t .0)) (apart-all n c (omega arith) (s .1) (t .1))
 
 -- something differs exactly when the node resolves the conflict
 differing-all : (n c : Assignment) → length n ≡ length c → All (Under 16) n → All (Under 16) c → not (allZero (differing n c)) ≡ resolves n c
@@ -190,11 +208,22 @@ module _ (n c : Assignment) (wn vn wc vc : ℕ) (p : Wide n wn vn) (q : Wide c w
       nibbles-zero (or-nibbles (xor-nibbles (and-nibbles (wide-nibbles n wn vn p) conflict-wide) conflict-wide) (and-nibbles difference conflict-wide)) (p .words .short)
       ∙ missing-all n c e (p .words .small) (q .words .small)
 
+  -- the same from where the two are not the same
+  apart-word : eqb (bitAnd (bitOr (bitXor vn vc) (bitXor wn wc)) wc) 0 ≡ manifests n c
+  apart-word =
+      nibbles-zero (and-nibbles (or-nibbles difference (xor-nibbles (wide-nibbles n wn vn p) conflict-wide)) conflict-wide) (p .words .short)
+      ∙ apart-all n c e (p .words .small) (q .words .small)
+
   -- a word that is zero exactly where the node does not resolve the conflict
   pub resolves-word : not (eqb (bitAnd (bitAnd (bitXor vn vc) wn) wc) 0) ≡ resolves n c
   resolves-word =
       ap not (nibbles-zero (and-nibbles (and-nibbles difference (wide-nibbles n wn vn p)) conflict-wide) (p .words .short))
       ∙ differing-all n c e (p .words .small) (q .words .small)
+
+-- from where two assignments are not the same: whether one of them contains the other
+pub related-word : (n c : Assignment) (wn vn wc vc : ℕ) → Wide n wn vn → Wide c wc vc → length n ≡ length c
+    → (eqb (bitAnd (bitOr (bitXor vn vc) (bitXor wn wc)) wc) 0 || eqb (bitAnd (bitOr (bitXor vn vc) (bitXor wn wc)) wn) 0) ≡ (manifests n c || manifests c n)
+related-word n c wn vn wc vc p q e = ap₂ _||_ (apart-word n c wn vn wc vc p q e) (rw (xor-comm vn vc, xor-comm wn wc) (apart-word c n wc vc wn vn q p (sym e)))
 
 -- values that extend an assignment, at the nibbles of the widened mask, are its values
 each-masked : (f : List ℕ) (a : Assignment) → Agree f a → Below 16 f → each bitAnd f (map spread a) ≡ map nibble a

@@ -1,31 +1,37 @@
 -- Demand 3: one statement about a run's whole result, and what every call promises. Assumes nothing: these are definitions.
 use mathlib.Core.Path.{_≡_}
 use mathlib.Core.Logic.{_⊎_}
-use mathlib.Core.Bool.{Bool, true}
-use mathlib.Core.List.{List, _++_, map}
+use mathlib.Core.Bool.{Bool, true, false}
+use mathlib.Core.List.{List, [], _++_, map}
 use Prim.Native.Nat.{ℕ, _+_, _*_, _/_, _≤_, _<_}
 use lib.ListN.{length, getD, drop, replicate}
 use Rattle.model.specs.Lists.{All, Begins, filled}
 use Rattle.model.specs.Sheet.{Plant, got, edition1, readSheet, decisionSizes}
 use Rattle.model.specs.Assignment.{Assignment, code}
-use Rattle.model.specs.Conflict.{Conflict, Minimal}
+use Rattle.model.specs.Conflict.{Conflict, Minimal, manifests}
 use Rattle.model.specs.Order.{Order, Before, orderOf, product, entryOf, wholeSet}
 use Rattle.model.specs.Listing.{Ending, enough, all, mostTested}
-use Rattle.model.specs.Calls.{refused, answered, Buffers, Counts, ran, unfinished, Answer, Called, stateBytes, entryWords, runList}
+use Rattle.model.specs.Calls.{refused, answered, Buffers, Counts, ran, unfinished, Answer, Called, offersOf, stateBytes, entryWords, runList}
+use Rattle.theory.specs.Store.{Among, offeredIn, Remembered}
 use Rattle.theory.specs.Run.{strikes, Good, Overfull}
 use Rattle.theory.specs.Shown.{ShownAt}
 
--- the store after a run: conflicts that survived step 1, then minimal ones that were learned, then zeros
-pub record StoreAfter (p : Plant) (learned : ℕ) (before after : List ℕ) : Type 0 where
+-- the store after a run to which so many entries were offered: conflicts that survived step 1 and were not pushed out, then all that were learned, which are minimal, then zeros
+pub record StoreAfter (p : Plant) (held learned : ℕ) (before after : List ℕ) : Type 0 where
   pub survivors : List Assignment
   pub since : List Assignment
   pub words : after ≡ filled (entryWords (survivors ++ since)) (replicate (length before) 0)
   pub counted : length since ≡ learned
   pub conflicts : All (Conflict p) survivors
   pub minimal : All (Minimal p) since
+  -- no entry contains another: for any two places
+  pub apart : (i j : ℕ) → i < length (survivors ++ since) → j < length (survivors ++ since) → (i ≡ j → ⊥)
+      → manifests (getD (survivors ++ since) i []) (getD (survivors ++ since) j []) ≡ false
+  -- every survivor was offered, and they stand in the order of the offers
+  pub offered : Among survivors (offeredIn p (offersOf held before))
 
--- what holds of a run with so many states wanted, the lent buffers before, a trial limit, its ending, its counts, the buffers after, and whether the limit struck inside a reduction
-pub record Demand3 (p : Plant) (o : Order) (k : ℕ) (before : Buffers) (limit : ℕ) (e : Ending) (c : Counts) (after : Buffers) (struck : Bool) : Type 0 where
+-- what holds of a run with so many states wanted, the lent buffers before, so many entries offered, a trial limit, its ending, its counts, the buffers after, and whether the limit struck inside a reduction
+pub record Demand3 (p : Plant) (o : Order) (k : ℕ) (before : Buffers) (held limit : ℕ) (e : Ending) (c : Counts) (after : Buffers) (struck : Bool) : Type 0 where
   -- the list begins the whole set
   pub begins : Begins (runList (c .listed) after) (wholeSet p o)
   -- it is as long as listed says, which is at most k
@@ -46,8 +52,10 @@ pub record Demand3 (p : Plant) (o : Order) (k : ℕ) (before : Buffers) (limit :
       → (j : ℕ) × (j < i) × (getD (after .codes) j 0 ≡ code f)
   -- the 48 bytes of each place show the state: values within the domains that satisfy every clause and agree with the code, zero beyond D + S, and the first such values in trial order
   pub shown : (i : ℕ) → i < c .listed → ShownAt p after i
-  -- survivors and learned are conflicts, and the learned ones minimal
-  pub stored : StoreAfter p (c .learned) (before .store) (after .store)
+  -- survivors and learned are conflicts, and the learned ones minimal; none contains another, and the survivors were offered
+  pub stored : StoreAfter p held (c .learned) (before .store) (after .store)
+  -- no offered conflict is forgotten in substance: unless the run is 'spent', each contains a stored one, or is it
+  pub remembered : (e ≡ Ending.spent → ⊥) → Remembered p (offersOf held (before .store)) (stored .survivors ++ stored .since)
   -- the counts' bounds
   pub tested-most : c .tested ≤ mostTested
   pub trials-most : c .trials ≤ limit
@@ -62,11 +70,11 @@ pub record Demand3 (p : Plant) (o : Order) (k : ℕ) (before : Buffers) (limit :
   pub queue-zero : after .queue ≡ replicate (length (before .queue)) 0
 
 -- what a listing call promises of any input: a refusal changes no lent buffer; any other answer is a run with one of the four endings, of the plant that the sheet says, and demand 3 holds of it
-abbrev pub PromisedBy : List ℕ → ℕ → Buffers → ℕ → Answer → Buffers → Bool → Type 0
-PromisedBy sheet k before limit (refused r) after struck = after ≡ before
-PromisedBy sheet k before limit (answered (ran e c)) after struck =
-    (p : Plant) × (end : ℕ) × (readSheet edition1 sheet ≡ got p end) × Demand3 p (orderOf p) k before limit e c after struck
-PromisedBy sheet k before limit (answered unfinished) after struck = ⊥
+abbrev pub PromisedBy : List ℕ → ℕ → Buffers → (held limit : ℕ) → Answer → Buffers → Bool → Type 0
+PromisedBy sheet k before held limit (refused r) after struck = after ≡ before
+PromisedBy sheet k before held limit (answered (ran e c)) after struck =
+    (p : Plant) × (end : ℕ) × (readSheet edition1 sheet ≡ got p end) × Demand3 p (orderOf p) k before held limit e c after struck
+PromisedBy sheet k before held limit (answered unfinished) after struck = ⊥
 
-abbrev pub Promised : List ℕ → ℕ → Buffers → ℕ → Called → Type 0
-Promised sheet k before limit called = PromisedBy sheet k before limit (called .answer) (called .after) (called .struck)
+abbrev pub Promised : List ℕ → ℕ → Buffers → (held limit : ℕ) → Called → Type 0
+Promised sheet k before held limit called = PromisedBy sheet k before held limit (called .answer) (called .after) (called .struck)

@@ -12,6 +12,7 @@ pub mod Refusals
 pub mod Run
 pub mod Search
 pub mod Shown
+pub mod Store
 pub mod Tables
 pub mod TwoRuns
 pub mod Value

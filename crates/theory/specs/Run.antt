@@ -17,6 +17,7 @@ use Rattle.model.specs.Calls.{valueBytes}
 use Rattle.theory.specs.BestFirst.{Apart, Inv}
 use Rattle.theory.specs.Order.{In}
 use Rattle.theory.specs.Shown.{Shows, Each}
+use Rattle.theory.specs.Store.{Among, Neither, ContainsOne}
 use Rattle.theory.specs.Nodes.{Ordered, weights, room, rooms}
 
 -- one where the limit struck inside a reduction
@@ -28,13 +29,17 @@ strikes false = 0
 abbrev pub Good : Plant → List ℕ → Type 0
 Good p f = Fits (decisionSizes p) f × Consistent p (full f)
 
--- the store is the survivors of step 1 and then the conflicts learned, which are minimal
+-- the store is what is left of the survivors of step 1, which are conflicts, and then all conflicts learned, which are minimal; none contains another, and each survivor contains a stored one
 pub record Stored (p : Plant) (survivors : List Assignment) (learned : ℕ) (store : List Assignment) : Type 0 where
+  pub left : List Assignment
   pub since : List Assignment
-  pub parts : store ≡ survivors ++ since
+  pub parts : store ≡ left ++ since
   pub count : length since ≡ learned
   pub offered : All (Conflict p) survivors
+  pub among : Among left survivors
   pub minimal : All (Minimal p) since
+  pub apart : Pairs Neither store
+  pub covers : All (ContainsOne store) survivors
 
 -- nodes that a node may give way to: they are parts of it with nothing in common, hold each good f of it, and leave less to do
 pub record Children (p : Plant) (n : Assignment) (children : List Assignment) : Type 0 where

@@ -4,6 +4,7 @@
 // the same of a widened mask and values; for such words each answer is an equation with the model. Nothing relies on there
 // being a variable.
 ghost use mathlib.Core.Path.{_≡_};
+ghost use mathlib.Core.Bool.{_||_};
 ghost use mathlib.Core.List.{List};
 ghost use mathlib.Core.Option.{none};
 ghost use Prim.Native.Nat.{ℕ, _*_, _<_, _≤_};
@@ -157,6 +158,14 @@ pub fn manifests(values: u64, wide: u64, conflict_values: u64, conflict_wide: u6
     ensures { λ r. ⌜ ((n c : Assignment) → Wide n wide values → Wide c «conflict_wide» «conflict_values» → length n ≡ length c → r ≡ manifests n c) ⌝ }
 {
     ((wide & conflict_wide) ^ conflict_wide) | ((values ^ conflict_values) & conflict_wide) == 0
+}
+
+// Whether of two assignments one contains the other, from the values and the widened mask of both.
+pub fn related(values: u64, wide: u64, other_values: u64, other_wide: u64) -> bool
+    ensures { λ r. ⌜ ((n c : Assignment) → Wide n wide values → Wide c «other_wide» «other_values» → length n ≡ length c → r ≡ (manifests n c || manifests c n)) ⌝ }
+{
+    let apart = (values ^ other_values) | (wide ^ other_wide);
+    (apart & other_wide == 0) | (apart & wide == 0)
 }
 
 // Whether a node gives a member of a conflict another value, from the values and the widened mask of both.

@@ -11,8 +11,8 @@ use Rattle.judge.proofs.Judging.{learn-unkept, learn-spent, learn-confl
 use Rattle.judge.proofs.learn.Statement.{statement}
 use Rattle.judge.proofs.learn.Tie as tie
 
-add-t22 : tie.Need-add-t22
-add-t22 c = search needs
+add-t23 : tie.Need-add-t23
+add-t23 c = search needs
 
 counted-requires : tie.Need-counted-requires
 counted-requires c κs = search needs
@@ -35,8 +35,8 @@ counted-requires-2 c κs = search needs
 enum-known-mask : tie.Need-enum-known-mask
 enum-known-mask c = search needs
 
-append-requires : tie.Need-append-requires
-append-requires c κs = search needs
+learn-requires : tie.Need-learn-requires
+learn-requires c κs = search needs
 
 sieve-requires : tie.Need-sieve-requires
 sieve-requires c κs = search needs
@@ -51,20 +51,15 @@ module _ (k : tie.After-reduce) where
     answered : Reduces (q .plant) (reduce (q .plant) (start .args .limit) (t .parent) (start .args .trials)) (k .reduce .result)
     answered = k .reduce .ensures .0 (q .plant) prices tb (t .parent) (k .before .values .ensures (q .plant) (t .parent) (t .is)) (t .is .valid)
 
--- from behind the append
-abbrev reduced : tie.After-append → tie.After-reduce
+-- from behind the store
+abbrev reduced : tie.After-learn → tie.After-reduce
 reduced a = a .before .before .before .before .before
 
 add-t42 : tie.Need-add-t42
-add-t42 c =
-    let k = reduced (c .before .before .before .before .before .before .before) in
-    omega (arith, k .before .before .before .if1 .left, start k .good .1 .1 .1 .1 .1 .1 .1 .1 .0 .0)
-
-add-t43 : tie.Need-add-t43
-add-t43 c = omega (arith, start (reduced (c .before .before .before .before .before .before .before .before)) .pre)
+add-t42 c = omega (arith, start (reduced (c .before .before .before .before .before .before .before)) .pre)
 
 counted-requires-3 : tie.Need-counted-requires-3
-counted-requires-3 c κs = start (reduced (c .before .before .before .before .before .before .before .before)) .pre .1 .tested-less
+counted-requires-3 c κs = start (reduced (c .before .before .before .before .before .before .before)) .pre .1 .tested-less
 
 returns-2 : tie.Need-returns-2
 returns-2 c =
@@ -81,11 +76,11 @@ same-length-2 c = search needs
 
 returns-3 : tie.Need-returns-3
 returns-3 c =
-    let s = c .before .before .before .before .before .sieve in
-    let a = c .before .before .before .before .before .before .before .before .before in
+    let s = c .before .before .before .before .sieve in
+    let a = c .before .before .before .before .before .before .before .before in
     let k = reduced a in (
       λ q prices codes costs values tb t.
-          rw (c .counted3 .ensures) (learn-conflict t _ (k .before .before .before .if1 .left) _ (answered k tb t) (a .before .before .before .mask .given .1) _ _ _ (s .kept .0) (a .append .ensures .0) (s .ensures)),
+          rw (c .counted3 .ensures) (learn-conflict t _ (k .before .before .before .if1 .left) _ (answered k tb t) (a .before .before .before .mask .given .1) _ _ _ _ (s .kept .0) (a .learn .ensures .1) (s .ensures)),
       k .reduce .ensures .1,
     )
 
@@ -93,7 +88,7 @@ pub learn-spec : {M : Type 1} → statement M
 learn-spec =
     tie.close
     (tie.spec
-    add-t22
+    add-t23
     counted-requires
     returns
     values-requires
@@ -101,10 +96,9 @@ learn-spec =
     enum-known-t
     counted-requires-2
     enum-known-mask
-    append-requires
+    learn-requires
     sieve-requires
     add-t42
-    add-t43
     counted-requires-3
     returns-2
     same-length

@@ -62,8 +62,8 @@ returns c =
     let e = c .before .before .entry-at .ensures in (
       omega arith,
       (
-        λ p costs t n survivors h l kept.
-            check-malformed t (s .args .limit) n (s .args .i) _ survivors (s .args .used) (s .args .m) _ _ h l (e .0) (e .1) kept (s .pre .2) (sym (c .before .well-formed .ensures) ∙ not-true _ (c .if1 .taken)),
+        λ p costs t n found h l long kept.
+            check-malformed t (s .args .limit) n (s .args .i) _ found (s .args .used) (s .args .m) _ _ h l (e .0) (e .1) long kept (s .pre .2) (sym (c .before .well-formed .ensures) ∙ not-true _ (c .if1 .taken)),
         s .pre .0 .planned,
       ),
     )
@@ -80,11 +80,8 @@ enum-known-t-2 c = search needs
 enum-known-t-3 : tie.Need-enum-known-t-3
 enum-known-t-3 c = search needs
 
-append-requires : tie.Need-append-requires
-append-requires c κs = search needs
-
-add-t27 : tie.Need-add-t27
-add-t27 c = let s = start (c .before .before .before .before .before .before .before) in omega (arith, s .pre .1, s .pre .2)
+admit-requires : tie.Need-admit-requires
+admit-requires c κs = search needs
 
 same-length-2 : tie.Need-same-length-2
 same-length-2 c = search needs
@@ -96,8 +93,8 @@ returns-2 c =
     let e = read k .entry-at .ensures in (
       omega arith,
       (
-        λ p costs t n survivors h l kept.
-            check-consistent t (s .args .limit) n (s .args .i) _ survivors (s .args .used) (s .args .m) _ _ h l (e .0) (e .1) kept (s .pre .2) (formed k) (was-consistent _ _ _ _ _ (as-ended (answered k t)) (c .before .t .given .1)),
+        λ p costs t n found h l long kept.
+            check-consistent t (s .args .limit) n (s .args .i) _ found (s .args .used) (s .args .m) _ _ h l (e .0) (e .1) long kept (s .pre .2) (formed k) (was-consistent _ _ _ _ _ (as-ended (answered k t)) (c .before .t .given .1)),
         k .tested .ensures .1,
       ),
     )
@@ -112,8 +109,8 @@ returns-3 c =
     let e = read k .entry-at .ensures in (
       omega arith,
       (
-        λ p costs t n survivors h l kept.
-            check-spent t (s .args .limit) n (s .args .i) _ survivors (s .args .used) (s .args .m) _ _ h l (e .0) (e .1) kept (s .pre .2) (formed k) (was-spent _ _ _ _ _ (as-ended (answered k t)) (c .before .t2 .given .1) .0),
+        λ p costs t n found h l long kept.
+            check-spent t (s .args .limit) n (s .args .i) _ found (s .args .used) (s .args .m) _ _ h l (e .0) (e .1) long kept (s .pre .2) (formed k) (was-spent _ _ _ _ _ (as-ended (answered k t)) (c .before .t2 .given .1) .0),
         k .tested .ensures .1,
       ),
     )
@@ -126,13 +123,14 @@ returns-4 c =
     let k = c .before .before .before .before .before .before .before in
     let s = start k in
     let e = read k .entry-at .ensures in
-    let g = c .before .before .append .ensures in (
-      omega arith,
+    let g = c .before .before .admit .ensures in (
+      g .0,
       (
-        λ p costs t n survivors h l kept.
-            check-inconsistent t (s .args .limit) n (s .args .i) _ survivors (s .args .used) (s .args .m) _ _ h l (e .0) (e .1) kept (s .pre .2) (formed k) _
+        λ p costs t n found h l long kept.
+            let whole = assignment-length _ _ _ (kept .narrow) in
+            check-inconsistent t (s .args .limit) n (s .args .i) _ found (s .args .used) (s .args .m) _ _ h l (e .0) (e .1) long kept (s .pre .2) (formed k) _ whole
             (was-inconsistent _ _ _ _ _ (as-ended (answered k t)) (c .before .before .before .before .before .t3 .given .1) .0)
-            (g .0 _ survivors _ kept (held k t .words) (assignment-length _ _ _ (kept .narrow))) (g .1),
+            (λ apart. g .1 .0 _ _ _ kept apart (held k t .words) whole) (g .1 .1),
         k .tested .ensures .1,
       ),
     )
@@ -149,8 +147,7 @@ check-spec =
     enum-known-t
     enum-known-t-2
     enum-known-t-3
-    append-requires
-    add-t27
+    admit-requires
     same-length-2
     returns-2
     same-length-3

@@ -51,10 +51,10 @@ module _ (k : tie.After-check Inv-loop μ-loop) where
         (turn .before .loop .m) (turn .before .loop .used)
     so-far = turn .before .loop .inv .4 p costs t
 
-    one : CheckedOne p (start .args .limit) (start .args .held) (turn .before .loop .i) (so-far .survivors) (turn .before .loop .used) (turn .before .loop .store) after
+    one : CheckedOne p (start .args .limit) (start .args .held) (turn .before .loop .i) (so-far .found) (turn .before .loop .used) (turn .before .loop .store) after
         (k .check .result)
-    one = k .check .ensures .1 .0 p costs t (start .args .held) (so-far .survivors) (turn .loop-test .taken)
-        (omega (arith, start .pre .1, turn .before .loop .inv .0)) (so-far .keeps)
+    one = k .check .ensures .1 .0 p costs t (start .args .held) (so-far .found) (turn .loop-test .taken)
+        (omega (arith, start .pre .1, turn .before .loop .inv .0)) (so-far .long) (so-far .keeps)
 
 enum-known-n : tie.Need-enum-known-n Inv-loop μ-loop
 enum-known-n c = search needs

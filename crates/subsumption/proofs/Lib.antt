@@ -1,0 +1,2 @@
+pub mod Subsuming
+pub mod Pushing
