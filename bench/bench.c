@@ -6,16 +6,17 @@
  * junk once and then lent again as the last run left them: they are never
  * cleared, and the memory is warm. */
 #define _POSIX_C_SOURCE 199309L
+#include "clock.h"
 #include "conflicts.h"
 #include "implementations.h"
 #include "lent.h"
+#include "whole.h"
 
 #include <inttypes.h>
 #include <stdbool.h>
 #include <stdio.h>
 #include <stdlib.h>
 #include <string.h>
-#include <time.h>
 
 enum { ROUNDS_LEAST = 9, ROUNDS_MOST = 41, JOBS_MOST = 2 * IMPLEMENTATIONS };
 static const double BATCH = 0.4e-3; /* seconds that a sample shall take at least */
@@ -233,24 +234,6 @@ static void table_of_stores(void)
 }
 
 /* ---- (d) whole runs ---- */
-
-struct whole {
-    const char *name;
-    struct settings settings;
-    size_t store; /* in entries; offered ones are those of make_conflict() */
-};
-
-static const struct whole WHOLE[] = {
-    {"driveline-06a", {16, 0, 1000000}, 64}, {"driveline-06b", {16, 0, 1000000}, 64},
-    {"driveline-08a", {16, 0, 1000000}, 64}, {"driveline-08b", {16, 0, 1000000}, 64},
-    {"driveline-10a", {16, 0, 1000000}, 64}, {"driveline-10b", {16, 0, 1000000}, 64},
-    {"driveline-12a", {16, 0, 1000000}, 64}, {"driveline-12b", {16, 0, 1000000}, 64},
-    {"driveline-14a", {16, 0, 1000000}, 64}, {"driveline-14b", {16, 0, 1000000}, 64},
-    {"driveline-16a", {16, 0, 1000000}, 64}, {"driveline-16b", {16, 0, 1000000}, 64},
-    {"driveline-16c", {16, 0, 1000000}, 64}, {"queue-4096", {4096, 0, 0}, 64},
-    {"full-4096", {4096, 0, 0}, 64},         {"store-4096", {64, 4096, 1000000}, 4096},
-    {"learn-4096", {4096, 0, 1000000}, 4096},
-};
 
 /* One run by each implementation, which shall answer alike; its label. */
 static void label_run(const struct job *jobs, const char *name, char *label)

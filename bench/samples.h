@@ -40,14 +40,6 @@ static bool can_run(const struct job *j)
     return j->settings.k ? j->own->list != NULL : j->own->test != NULL;
 }
 
-/* Processor time of this process: others share the machine. */
-static double now(void)
-{
-    struct timespec t;
-    clock_gettime(CLOCK_PROCESS_CPUTIME_ID, &t);
-    return (double)t.tv_sec + 1e-9 * (double)t.tv_nsec;
-}
-
 /* Seconds for one call, over a batch of them. */
 static double sample(const struct job *j, unsigned batch)
 {

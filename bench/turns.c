@@ -4,13 +4,14 @@
  * `ours` that of the archive under test. Each round runs both; a ratio is the median
  * of those within a round, and stands beside the ratio of the least times. */
 #define _POSIX_C_SOURCE 199309L
+#include "clock.h"
 #include "conflicts.h"
 #include "lent.h"
+#include "whole.h"
 
 #include <stdio.h>
 #include <stdlib.h>
 #include <string.h>
-#include <time.h>
 
 list_call leading_list, before_list;
 
@@ -19,30 +20,6 @@ static const double BATCH = 2e-3; /* seconds that a sample shall take at least *
 
 static struct lent lent;
 static uint64_t offered[2 * OFFERED_MOST];
-
-/* A sheet of the corpus, its settings, and the entries of its store. */
-static const struct whole {
-    const char *name;
-    struct settings settings;
-    size_t store;
-} WHOLE[] = {
-    {"driveline-06a", {16, 0, 1000000}, 64}, {"driveline-06b", {16, 0, 1000000}, 64},
-    {"driveline-08a", {16, 0, 1000000}, 64}, {"driveline-08b", {16, 0, 1000000}, 64},
-    {"driveline-10a", {16, 0, 1000000}, 64}, {"driveline-10b", {16, 0, 1000000}, 64},
-    {"driveline-12a", {16, 0, 1000000}, 64}, {"driveline-12b", {16, 0, 1000000}, 64},
-    {"driveline-14a", {16, 0, 1000000}, 64}, {"driveline-14b", {16, 0, 1000000}, 64},
-    {"driveline-16a", {16, 0, 1000000}, 64}, {"driveline-16b", {16, 0, 1000000}, 64},
-    {"driveline-16c", {16, 0, 1000000}, 64}, {"queue-4096", {4096, 0, 0}, 64},
-    {"full-4096", {4096, 0, 0}, 64},         {"store-4096", {64, 4096, 1000000}, 4096},
-    {"learn-4096", {4096, 0, 1000000}, 4096},
-};
-
-static double now(void)
-{
-    struct timespec t;
-    clock_gettime(CLOCK_PROCESS_CPUTIME_ID, &t);
-    return (double)t.tv_sec + 1e-9 * (double)t.tv_nsec;
-}
 
 /* Seconds of one run, over a batch of them; what is offered is offered anew each time. */
 static double sample(list_call *list, struct bytes sheet, const struct whole *w, unsigned batch)
