@@ -25,7 +25,7 @@ test:
 	bash .ci/run
 
 # the extern functions of the crates that export some, in one archive; each of these comes from the kit in one of its own
-EXPORTS = export export_tables
+EXPORTS = export export_weights export_tables
 archive:
 	mkdir -p target/lib
 	for crate in $(EXPORTS); do rt staticlib $$crate || exit 1; done > target/lib/archive.log 2>&1 || { cat target/lib/archive.log; exit 1; }

@@ -75,7 +75,7 @@ change("19 before 1 where 2 is not given", "Calls", HOST1, HOST19.replace("∷ "
 change("19 before 2", "Calls", HOST2 + HOST19, HOST19 + HOST2)
 change("19 after 3", "Calls", HOST19 + HOST3, HOST3 + HOST19)
 change("19 after 4", "Calls", HOST19 + HOST3 + HOST4, HOST3 + HOST4 + HOST19)
-change("19 after the sheet", "Calls", HOST19, "", "| got p end ↦ calledOf (orderOf p) b (runOf p k b held limit)", "| got p end ↦ elim (ltb (length (b .values)) (stateBytes * k)) [ true ↦ refusing b (byHost 19) | false ↦ calledOf (orderOf p) b (runOf p k b held limit) ]")
+change("19 after the sheet", "Calls", HOST19, "", "| got p end ↦ calledOf (orderOf e p) b (runOf p (orderOf e p) k b held limit)", "| got p end ↦ elim (ltb (length (b .values)) (stateBytes * k)) [ true ↦ refusing b (byHost 19) | false ↦ calledOf (orderOf e p) b (runOf p (orderOf e p) k b held limit) ]")
 change("19 unchecked", "Calls", HOST19, "")
 change("19 numbered 2", "Calls", HOST19, HOST19.replace("19", "2"))
 change("19 blamed on the author", "Calls", "| some n ↦ refusing b (byHost n)", "| some n ↦ refusing b (elim (eqb n 19) [ true ↦ byAuthor n | false ↦ byHost n ])")
@@ -152,20 +152,39 @@ change("the host's refusal blamed on the author", "Calls", "| some n ↦ refusin
 change("the author's refusal blamed on the host", "Calls", "| Read.refused n ↦ refusing b (byAuthor n)", "| Read.refused n ↦ refusing b (byHost n)")
 change("the sheet before the host", "Calls", """    elim (firstGiven (hostGrounds k b held resultShort)) [
       | some n ↦ refusing b (byHost n)
-      | none ↦ elim (readSheet edition1 sheet) [
+      | none ↦ elim (readSheet e sheet) [
         | Read.refused n ↦ refusing b (byAuthor n)
-        | got p end ↦ calledOf (orderOf p) b (runOf p k b held limit)
+        | got p end ↦ calledOf (orderOf e p) b (runOf p (orderOf e p) k b held limit)
       ]
     ]
-""", """    elim (readSheet edition1 sheet) [
+""", """    elim (readSheet e sheet) [
       | Read.refused n ↦ refusing b (byAuthor n)
       | got p end ↦ elim (firstGiven (hostGrounds k b held resultShort)) [
         | some n ↦ refusing b (byHost n)
-        | none ↦ calledOf (orderOf p) b (runOf p k b held limit)
+        | none ↦ calledOf (orderOf e p) b (runOf p (orderOf e p) k b held limit)
       ]
     ]
 """)
-change("listing call: result short", "Calls", "listingCall sheet k b held limit = listingWith sheet k b held limit false", "listingCall sheet k b held limit = listingWith sheet k b held limit true")
+RUN = "calledOf (orderOf e p) b (runOf p (orderOf e p) k b held limit)"
+change("listing: edition 1 read for either", "Calls", "| none ↦ elim (readSheet e sheet) [", "| none ↦ elim (readSheet edition1 sheet) [")
+change("listing: edition 2 read for either", "Calls", "| none ↦ elim (readSheet e sheet) [", "| none ↦ elim (readSheet edition2 sheet) [")
+change("listing: each call reads both editions", "Calls", "| none ↦ elim (readSheet e sheet) [", "| none ↦ elim (readEither sheet) [")
+change("listing: costs filled in for either", "Calls", RUN, RUN.replace("calledOf (orderOf e p)", "calledOf (orderOf edition1 p)"))
+change("listing: products filled in for either", "Calls", RUN, RUN.replace("calledOf (orderOf e p)", "calledOf (orderOf edition2 p)"))
+change("listing: run by costs for either", "Calls", RUN, RUN.replace("runOf p (orderOf e p)", "runOf p (orderOf edition1 p)"))
+change("listing: run by products for either", "Calls", RUN, RUN.replace("runOf p (orderOf e p)", "runOf p (orderOf edition2 p)"))
+LISTING = "listingCall sheet k b held limit = listingWith edition1 sheet k b held limit false"
+WEIGHTS = "weightsCall sheet k b held limit = listingWith edition2 sheet k b held limit false"
+GETD = "use lib.ListN.{length, replicate, take, drop}", "use lib.ListN.{length, getD, replicate, take, drop}"
+for name, call, other, first in (("listing", LISTING, "edition2", 2), ("weights", WEIGHTS, "edition1", 1)):
+    own, with_own = call.split(" = ")
+    with_other = with_own.replace("edition1", other).replace("edition2", other)
+    change(f"{name} call: result short", "Calls", call, call.replace("limit false", "limit true"))
+    change(f"{name} call: the other edition", "Calls", call, f"{own} = {with_other}")
+    change(f"{name} call: the other edition too", "Calls", call, f"{own} = elim (eqb (getD sheet 0 0) {first}) [ true ↦ {with_other} | false ↦ {with_own} ]", *GETD)
+    change(f"{name} call: nothing held", "Calls", call, call.replace("b held limit false", "b 0 limit false"))
+    change(f"{name} call: limit unread", "Calls", call, call.replace("held limit false", "held 1000 false"))
+    change(f"{name} call: one state fewer", "Calls", call, call.replace("sheet k b held limit false", "sheet (k - 1) b held limit false"))
 change("endings: enough and all swapped", "Calls", "endingNumber enough = 1", "endingNumber enough = 2", "endingNumber all = 2", "endingNumber all = 1")
 change("endings: full and spent swapped", "Calls", "endingNumber full = 3", "endingNumber full = 4", "endingNumber Ending.spent = 4", "endingNumber Ending.spent = 3")
 change("endings: from 0", "Calls", "endingNumber enough = 1", "endingNumber enough = 0", "endingNumber all = 2", "endingNumber all = 1", "endingNumber full = 3", "endingNumber full = 2", "endingNumber Ending.spent = 4", "endingNumber Ending.spent = 3")
@@ -189,6 +208,17 @@ change("export: result unwritten", "Calls", EXRAN, EXRAN.replace("filled (result
 change("export: five words suffice", "Calls", "(ltb (length result) 6) in", "(ltb (length result) 5) in")
 change("export: seven words wanted", "Calls", "(ltb (length result) 6) in", "(ltb (length result) 7) in")
 change("export: any result accepted", "Calls", "(ltb (length result) 6) in", "false in")
+change("export: edition 1 for either", "Calls", "= listingWith e sheet k b held limit (ltb", "= listingWith edition1 sheet k b held limit (ltb")
+change("export: edition 2 for either", "Calls", "= listingWith e sheet k b held limit (ltb", "= listingWith edition2 sheet k b held limit (ltb")
+for own, other in (("exportCall", "weightsExport"), ("weightsExport", "exportCall")):
+    number = "edition1" if own == "exportCall" else "edition2"
+    exporting = f"{own} sheet k b held limit result = exportWith {number} sheet k b held limit result"
+    change(f"{own}: as {other}", "Calls", exporting, exporting.replace(number, "edition2" if number == "edition1" else "edition1"))
+    change(f"{own}: result unwritten", "Calls", exporting, exporting.replace("= exportWith", "= let x : Exported = exportWith") + " in record { returned = x .returned; after = x .after; result = result }")
+    change(f"{own}: nothing held", "Calls", exporting, exporting.replace(f"{number} sheet k b held", f"{number} sheet k b 0"))
+    change(f"{own}: limit unread", "Calls", exporting, exporting.replace(f"{number} sheet k b held limit", f"{number} sheet k b held 1000"))
+change("words: edition 1 only", "Calls", "elim (readEither sheet) [", "elim (readSheet edition1 sheet) [")
+change("words: edition 2 only", "Calls", "elim (readEither sheet) [", "elim (readSheet edition2 sheet) [")
 change("export: buffers as lent", "Calls", "exportedOf result (called .after) (called .answer)", "exportedOf result b (called .answer)")
 change("test export: consistent and inconsistent swapped", "Calls", "testWords (consistent f t) = 1 ∷", "testWords (consistent f t) = 2 ∷", "testWords (inconsistent t) = 2 ∷", "testWords (inconsistent t) = 1 ∷")
 TESTREF = "testWritten shown result (refused r) = (refusalNumber r, shown, result)"

@@ -82,6 +82,11 @@ change("18 is the author's", "TableCalls", "[ some n ↦ unwritten buffer (byHos
 change("16 is the author's", "TableCalls", "      | some n ↦ unwritten buffer (byHost n)\n", "      | some n ↦ unwritten buffer (byAuthor n)\n")
 change("17 is the host's", "TableCalls", "        | some n ↦ unwritten buffer (byAuthor n)\n", "        | some n ↦ unwritten buffer (byHost n)\n")
 change("16 after 17", "TableCalls", "elim (firstGiven (lengthGrounds t)) [", "elim (firstGiven (tableGrounds edition1 t)) [", "none ↦ elim (firstGiven (tableGrounds edition1 t)) [", "none ↦ elim (firstGiven (lengthGrounds t)) [")
+SHEET = "edition1, decisionsAllowed, readSheet}"
+change("the writer: by edition 2", "TableCalls", "sheetOf edition1 (plantOf t)", "sheetOf edition2 (plantOf t)", SHEET, SHEET.replace("edition1", "edition1, edition2"))
+change("the writer: D of edition 2", "TableCalls", "tableGrounds edition1 t", "tableGrounds edition2 t", SHEET, SHEET.replace("edition1", "edition1, edition2"))
+change("a reading of edition 2", "TableCalls", "readTables sheet = elim (readSheet edition1 sheet) [", "readTables sheet = elim (readSheet edition2 sheet) [", SHEET, SHEET.replace("edition1", "edition1, edition2"))
+change("a reading of either edition", "TableCalls", "readTables sheet = elim (readSheet edition1 sheet) [", "readTables sheet = elim (readEither sheet) [", SHEET, SHEET.replace("readSheet", "readSheet, readEither"))
 change("a sheet's refusal is the host's", "TableCalls", "Read.refused n ↦ refused (byAuthor n)", "Read.refused n ↦ refused (byHost n)")
 change("a reading empties what is beyond", "TableCalls", "sizes = filled (t .sizes) (lent .sizes);", "sizes = t .sizes;")
 change("a reading leaves the costs", "TableCalls", "costs = filled (t .costs) (lent .costs);", "costs = lent .costs;")

@@ -31,6 +31,8 @@ MODEL = Path(__file__).resolve().parent.parent / "crates" / "model"
 MEANING = {file for _, file, _ in CHANGES}
 EQUIVALENT = {
     "bit: beyond the end is 1": "`field` reads no bit beyond the end, and filler ends with its byte",
+    "either: edition 2 where the first byte is not 1": "a first byte other than 1 and 2 gets 6 from either edition, and no byte 5",
+    "either: an empty sheet is of edition 2": "an empty sheet gets 5 from either edition",
 }
 
 

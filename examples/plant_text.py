@@ -10,12 +10,12 @@
 `list` lists the leading states of a text: it makes the sheet, runs the host
 program over it and names what that prints. `sheet` writes the sheet of a text.
 `text` writes a text of a sheet, with made-up names (p0, h0, s0). `tables` prints
-the tables of a text as leading_tables takes them. `names` reads what the host or
-the program `leading` printed, names in each line the parts that are not in their
-first state, below it the values of the hidden variables where the host was asked for
-them (-v), and says in words what the ending means, and the conflicts. `check` holds
-FILE.sheet to FILE.plant, and takes both there and back. README.md says what a text
-looks like.
+the tables of a text with costs as leading_tables takes them. `names` reads what the
+host or the program `leading` printed, names in each line the parts that are not in
+their first state, below it the values of the hidden variables where the host was asked
+for them (-v), and says in words what the ending means, and the conflicts. `check` holds
+FILE.sheet to FILE.plant, and takes both there and back. A text has costs or weights;
+the sheet is of edition 1 or 2. README.md says what a text looks like.
 
 Bytes are packed and read by outside/plant.py, which shares nothing with the
 proved library. Python 3, standard library only.
@@ -27,6 +27,7 @@ import re
 import subprocess
 import sys
 import textwrap
+from math import prod
 from pathlib import Path
 
 ROOT = Path(__file__).resolve().parent.parent
@@ -35,19 +36,20 @@ sys.path.insert(0, str(ROOT / "outside"))
 
 from plant import (  # noqa: E402
     CLAUSES_MOST,
-    DECISIONS_MOST,
+    FIRST,
+    SECOND,
     STATES_MOST,
     Literal,
     Plant,
     Refusal,
     encode,
-    read,
+    read_either,
 )
 
 COMMANDS = ("list", "sheet", "text", "tables", "names", "check")
 VALUES_MOST = 16
-COST_MOST = 65535
 LITERALS_MOST = 15
+WEIGHT_WHOLE = 256
 NAME = re.compile(r"[A-Za-z][A-Za-z0-9_-]*")
 LITERAL = re.compile(r"(\S+?)\s*(!=|=)\s*(\S+)")
 RESERVED = ("part", "hidden", "or", "never")
@@ -57,8 +59,8 @@ LINE_MOST = 10_000  # characters
 SHOWN_MOST = 60  # characters of the text in a message
 MARKS = (codecs.BOM_UTF8, codecs.BOM_UTF16_LE, codecs.BOM_UTF16_BE)
 NOT_IN_TEXT = re.compile(rb"[\x00-\x08\x0b\x0c\x0e-\x1f\x7f]")
-SHEET_BEGINS = b"\x01"
-LISTED = re.compile(r"([0-9]+) ([0-9]{1,10}) ([0-9a-f]{16})")
+SHEET_BEGINS = (b"\x01", b"\x02")
+LISTED = re.compile(r"([0-9]+) ([0-9]{1,20}) ([0-9a-f]{16})(?: (.+))?")
 ENDED = re.compile(r"(all|enough|full|spent) ([0-9]+) tested .*")
 SHOWN = re.compile(r"hidden ([0-9]+)((?: [0-9]{1,10})*)")
 CONFLICT = re.compile(r"conflict ([0-9a-f]{16}) ([0-9a-f]{16})")
@@ -91,23 +93,32 @@ class Reader:
     """A text read line by line: names are declared above their use."""
 
     def __init__(self):
-        self.parts = {}  # name to the costs of its states by name
+        self.edition = FIRST
+        self.parts = {}  # name to the costs, or weights, of its states by name
         self.hidden = {}  # name to its values' names
         self.clauses = []  # literals as (name, sign, value)
 
     def line(self, text):
         text = text.split("#", 1)[0].strip()
         word, rest = (text.split(None, 1) + ["", ""])[:2]
-        if word == "part":
+        if text == "weights":
+            self.weigh()
+        elif word == "part":
             self.part(*declared(rest))
         elif word == "hidden":
             self.hide(*declared(rest))
         elif text:
             self.clause(text)
 
+    def weigh(self):
+        if self.parts:
+            raise TextError("'weights' stands above the first part")
+        self.edition = SECOND
+
     def part(self, name, items):
-        self.declare(name, self.parts, DECISIONS_MOST, "parts")
-        states = [state_and_cost(item) for item in items]
+        kind = "parts with weights" if self.edition == SECOND else "parts"
+        self.declare(name, self.parts, self.edition.decisions_most, kind)
+        states = [state_and_figure(item, self.edition) for item in items]
         self.parts[name] = dict(zip(distinct([s for s, _ in states]), (c for _, c in states)))
 
     def hide(self, name, items):
@@ -152,7 +163,7 @@ class Reader:
             tuple(Literal(numbers[name], sign, value) for name, sign, value in clause)
             for clause in self.clauses
         )
-        return Plant(costs, sizes, clauses)
+        return Plant(costs, sizes, clauses, self.edition)
 
 
 def short(text):
@@ -187,13 +198,18 @@ def declared(text):
     return checked_name(name.strip()), items
 
 
-def state_and_cost(item):
-    words = item.split()
+def state_and_figure(item, edition):
+    """A state's name, and its cost or weight."""
+    words, kind = item.split(), edition.figure
     if len(words) != 2 or not re.fullmatch("[0-9]+", words[1]):
-        raise TextError(f"expected a state and its cost, found '{short(item)}'")
+        raise TextError(f"expected a state and its {kind}, found '{short(item)}'")
+    most = (1 << edition.width) - 1
     digits = words[1].lstrip("0") or "0"
-    if len(digits) > len(str(COST_MOST)) or int(digits) > COST_MOST:
-        raise TextError(f"cost {short(words[1])} is above {COST_MOST}")
+    if len(digits) > len(str(most)) or int(digits) > most:
+        raise TextError(f"{kind} {short(words[1])} is above {most}")
+    if int(digits) < edition.least:
+        cure = "leave out a state that never comes"
+        raise TextError(f"{kind} {short(words[1])} is below {edition.least}; {cure}")
     return checked_name(words[0]), int(digits)
 
 
@@ -211,7 +227,7 @@ def decoded(data, source):
         place = error.start
     if place < len(data):
         line = data.count(b"\n", 0, place) + 1
-        sheet = "; if it is a sheet, 'text' writes its text" if data[:1] == SHEET_BEGINS else ""
+        sheet = "; if it is a sheet, 'text' writes its text" if data[:1] in SHEET_BEGINS else ""
         raise TextError(f"{source}:{line}: not a text: it has the byte {data[place]:#04x}{sheet}")
     return text
 
@@ -248,8 +264,8 @@ def to_sheet(text, source="text"):
 
 def to_text(sheet):
     """A text of the sheet, with names made up."""
-    plant = read(sheet)
-    lines = []
+    plant = read_either(sheet)
+    lines = ["weights"] if plant.edition == SECOND else []
     names = [f"p{n}" for n in range(plant.decisions)]
     names += [f"h{n}" for n in range(len(plant.state_sizes))]
     for name, costs in zip(names, plant.costs):
@@ -265,7 +281,8 @@ def to_text(sheet):
 
 def chosen(parts, code, mask):
     """The states that the code gives to the mask's parts, each as the part's name,
-    the state's name, its number and its cost; an error where the plant has none such."""
+    the state's name, its number and its cost or weight; an error where the plant has
+    none such."""
     if mask << len(parts) & (1 << 64) - 1 or code << 4 * len(parts) & (1 << 64) - 1:
         raise TextError(f"a part beyond the {len(parts)} of this plant; {ANOTHER}")
     found = []
@@ -292,7 +309,58 @@ def with_meaning(line, ending, listed):
     return f"{line}\n{'no explanation' if ending == 'all' and not listed else ENDINGS[ending]}"
 
 
-def named(line, parts):
+def rounded(number, divisor):
+    """Their quotient to the nearest whole number; what lies halfway goes up."""
+    return (2 * number + divisor) // (2 * divisor)
+
+
+def chance_text(product, parts):
+    """The chance in a form that people read, to three significant digits: as a
+    percentage where that comes to 1.00% or more, otherwise as one in so many."""
+    whole = WEIGHT_WHOLE**parts
+    tenths, hundredths = rounded(1000 * product, whole), rounded(10_000 * product, whole)
+    if hundredths >= 1000:
+        return f"{tenths // 10}.{tenths % 10}%"
+    if hundredths >= 100:
+        return f"{hundredths // 100}.{hundredths % 100:02}%"
+    unit = 1
+    while whole >= 1000 * unit * product:
+        unit *= 10
+    return f"1 in {unit * rounded(whole, unit * product):,}"
+
+
+def by_cost(costs, cost, chance):
+    """What stands for the state in its line: its cost, which is held to the plant's."""
+    own = sum(costs)
+    if cost != own:
+        raise TextError(f"a state that costs {cost}, and {own} in this plant; {ANOTHER}")
+    if chance:
+        raise TextError(f"a chance, {short(chance)}, and costs in this plant; {ANOTHER}")
+    return f"{own}"
+
+
+def by_product(weights, product, chance):
+    """Its product and its chance, which are held to the plant's."""
+    own = prod(weights)
+    if product != own:
+        raise TextError(f"a state of product {product}, and {own} in this plant; {ANOTHER}")
+    likely = chance_text(own, len(weights))
+    if chance != likely:
+        found = f"the chance {short(chance)}" if chance else "no chance"
+        raise TextError(f"{found} beside a product, and {likely} in this plant; {ANOTHER}")
+    return f"{own} ({likely})"
+
+
+def named_state(match, reader):
+    every = (1 << 64) - (1 << (64 - len(reader.parts)))
+    states = chosen(reader.parts, int(match[3], 16), every)
+    figures = by_product if reader.edition == SECOND else by_cost
+    figure = figures([figure for _, _, _, figure in states], int(match[2]), match[4])
+    words = [f"{name}={state}" for name, state, value, _ in states if value]
+    return f"{match[1]} {figure} {' '.join(words) or 'all in their first state'}"
+
+
+def named(line, reader):
     """A line of a list with its code in names, that of the ending with its meaning, a
     conflict in words; other lines as they are."""
     ended = ENDED.fullmatch(line)
@@ -300,17 +368,9 @@ def named(line, parts):
         return with_meaning(line, ended[1], int(ended[2]))
     conflict = CONFLICT.fullmatch(line)
     if conflict:
-        return in_words(chosen(parts, int(conflict[2], 16), int(conflict[1], 16)))
-    match = LISTED.fullmatch(line)
-    if not match:
-        return line
-    every = (1 << 64) - (1 << (64 - len(parts)))
-    states = chosen(parts, int(match[3], 16), every)
-    cost = sum(cost for _, _, _, cost in states)
-    if cost != int(match[2]):
-        raise TextError(f"a state that costs {match[2]}, and {cost} in this plant; {ANOTHER}")
-    words = [f"{name}={state}" for name, state, value, _ in states if value]
-    return f"{match[1]} {cost} {' '.join(words) or 'all in their first state'}"
+        return in_words(chosen(reader.parts, int(conflict[2], 16), int(conflict[1], 16)))
+    state = LISTED.fullmatch(line)
+    return named_state(state, reader) if state else line
 
 
 def hidden_lines(hidden, numbers):
@@ -355,7 +415,7 @@ class Naming:
         state = LISTED.fullmatch(text)
         if state:
             self.states[state[1]] = int(state[3], 16), len(self.lines)
-        self.lines.append(named(text, self.reader.parts))
+        self.lines.append(named(text, self.reader))
 
     def show(self, rank, numbers):
         if rank not in self.states:
@@ -405,6 +465,13 @@ def to_tables(plant):
     return "".join(" ".join(map(str, [word, *numbers])) + "\n" for word, numbers in lines.items())
 
 
+def tables_of(path):
+    plant = parse(read_text(path), path).plant()
+    if plant.edition == SECOND:
+        raise TextError(f"{path}: has weights; tables hold costs, of edition 1")
+    return to_tables(plant)
+
+
 def check(path):
     """The stored sheet is the text's, and both survive the way there and back."""
     text = read_text(path)
@@ -434,7 +501,7 @@ def run(words):
     elif words.command == "text":
         write(to_text(read_bytes(first)).encode(), words.output)
     elif words.command == "tables":
-        write(to_tables(parse(read_text(first), first).plant()).encode(), None)
+        write(tables_of(first).encode(), None)
     elif words.command == "names":
         reader = parse(read_text(first), first)
         lines = decoded(sys.stdin.buffer.read(TEXT_MOST + 1), "standard input")

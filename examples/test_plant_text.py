@@ -2,15 +2,18 @@
 
 import contextlib
 import io
+import itertools
 import sys
 import tempfile
 import unittest
+from math import prod
 from pathlib import Path
 
 sys.dont_write_bytecode = True
 
 from plant_text import (  # noqa: E402
     TextError,
+    chance_text,
     decoded,
     main,
     named,
@@ -19,10 +22,17 @@ from plant_text import (  # noqa: E402
     to_sheet,
     to_text,
 )
+from plant import read_either  # noqa: E402
+import listing  # noqa: E402
+import search  # noqa: E402
 
+EXAMPLES = Path(__file__).resolve().parent
 OTHER = "is this the list of another plant?"
 TOP = "part lever: ahead 0, idle 3\nhidden shaft: still, turning\n"
+WEIGHED = "weights\npart lever: ahead 240, idle 16\n"
 EXPECTED = "expected 'name = state' or 'name != state'"
+NEVER_COMES = "leave out a state that never comes"
+NINE_PARTS = "\n".join(f"part p{n}: s 1" for n in range(9))
 
 # A text, and the line and the message of its error.
 ERRORS = [
@@ -50,6 +60,16 @@ ERRORS = [
     ("part lever: ahead " + "9" * 5000, f"1: cost {'9' * 60}.. is above 65535"),
     ("part lever: " + "a" * 100, f"1: expected a state and its cost, found '{'a' * 60}..'"),
     (TOP + "#" * 10001, "3: a line of 10,001 characters; 10,000 is the most"),
+    ("weights\n", "1: no part"),
+    (TOP + "weights\n", "3: 'weights' stands above the first part"),
+    (WEIGHED + "weights of it\n", f"3: {EXPECTED}, found 'weights of it'"),
+    ("weights\npart lever: ahead 0\n", f"2: weight 0 is below 1; {NEVER_COMES}"),
+    ("weights\npart lever: ahead 1, idle 000\n", f"2: weight 000 is below 1; {NEVER_COMES}"),
+    ("weights\npart lever: ahead 256\n", "2: weight 256 is above 255"),
+    ("weights\npart lever: ahead " + "9" * 5000, f"2: weight {'9' * 60}.. is above 255"),
+    ("weights\npart lever: ahead\n", "2: expected a state and its weight, found 'ahead'"),
+    ("weights\npart lever: ahead -1\n", "2: expected a state and its weight, found 'ahead -1'"),
+    ("weights\n" + NINE_PARTS, "10: more than 8 parts with weights"),
 ]
 
 # A clause as people write it, and the end of its message.
@@ -72,6 +92,7 @@ NO_TEXTS = [
     (b"#\n\xff", ":2: not a text: it has the byte 0xff"),
     (b"#\n\n\0#", ":3: not a text: it has the byte 0x00"),
     (b"\x01\x10", ":1: not a text: it has the byte 0x01; if it is a sheet, 'text' writes its text"),
+    (b"\x02\x10", ":1: not a text: it has the byte 0x02; if it is a sheet, 'text' writes its text"),
     (b"#" * ((1 << 22) + 1), ": longer than 4,194,304 bytes, too long for a text"),
 ]
 
@@ -81,8 +102,40 @@ OF_OTHERS = [
     ("1 3 1100000000000000", "a part beyond the 1 of this plant"),
     ("1 3 1000000000000001", "a part beyond the 1 of this plant"),
     ("1 4 1000000000000000", "a state that costs 4, and 3 in this plant"),
+    ("1 3 1000000000000000 1.17%", "a chance, 1.17%, and costs in this plant"),
     ("conflict 4000000000000000 0000000000000000", "a part beyond the 1 of this plant"),
     ("conflict 8000000000000000 f000000000000000", "state 15 of 'lever', which has 2"),
+]
+
+# The same of a plant with weights, 240 and 16.
+OF_OTHERS_WEIGHED = [
+    ("1 16 2000000000000000 6.25%", "state 2 of 'lever', which has 2"),
+    ("1 15 1000000000000000 6.25%", "a state of product 15, and 16 in this plant"),
+    ("1 16 1000000000000000", "no chance beside a product, and 6.25% in this plant"),
+    ("1 16 1000000000000000 6.3%", "the chance 6.3% beside a product, and 6.25% in this plant"),
+    ("1 16 1000000000000000 1 in 9", "the chance 1 in 9 beside a product, and 6.25% in this plant"),
+]
+
+# A product, the number of parts, and its chance.
+CHANCES = [
+    (255, 1, "99.6%"),
+    (255**8, 8, "96.9%"),
+    (128, 1, "50.0%"),
+    (26, 1, "10.2%"),
+    (6549, 2, "9.99%"),
+    (6551, 2, "10.0%"),
+    (656, 2, "1.00%"),
+    (653, 2, "1.00%"),
+    (652, 2, "1 in 101"),
+    (512, 2, "1 in 128"),
+    (3, 1, "1.17%"),
+    (2, 1, "1 in 128"),
+    (1, 1, "1 in 256"),
+    (66, 2, "1 in 993"),
+    (65, 2, "1 in 1,010"),
+    (16785, 3, "1 in 1,000"),
+    (2**24, 8, "1 in 1,100,000,000,000"),
+    (1, 8, "1 in 18,400,000,000,000,000,000"),
 ]
 
 
@@ -150,6 +203,29 @@ class PlantText(unittest.TestCase):
         loose += " lever!=ahead  or shaft  =turning # b\n\tnever"
         self.assertEqual(to_sheet(plain), to_sheet(loose))
 
+    def test_weights(self):
+        """A line of its own above the parts makes the sheet one of edition 2."""
+        small = (EXAMPLES / "small.plant").read_text()
+        small = small.replace("ahead 0, idle 3", "ahead 240, idle 16")
+        small = small.replace("closed 0, open 3", "closed 224, open 32")
+        sheet = "02 10 20 10 f8 08 0f 01 00 98 10 06 01 04 42 00"
+        self.assertEqual(to_sheet("weights\n" + small), bytes.fromhex(sheet))
+        self.assertEqual(to_sheet(small)[0], 1)
+        self.assertEqual(to_sheet("hidden a: b\n\tweights # chances\npart p: s 1")[0], 2)
+        named_so = "weights\npart weights: weights 1\nweights = weights"
+        self.assertEqual(to_sheet("weights\n" + named_so), to_sheet(named_so))
+
+    def test_largest_weighed_there_and_back(self):
+        weights = ", ".join(f"s{n} {255 - 16 * n}" for n in range(15)) + ", s15 1"
+        values = ", ".join(f"s{n}" for n in range(16))
+        lines = ["weights"] + [f"part p{n}: {weights}" for n in range(8)]
+        lines += [f"hidden h{n}: {values}" for n in range(32)]
+        lines += [" or ".join(["h31 != s15"] * 15)] * 512
+        text = "\n".join(lines) + "\n"
+        sheet = to_sheet(text)
+        self.assertEqual(len(sheet), 10968)
+        self.assertEqual(to_text(sheet), text)
+
     def test_largest_there_and_back(self):
         costs = ", ".join(f"s{n} {65535 - n}" for n in range(16))
         values = ", ".join(f"s{n}" for n in range(16))
@@ -162,10 +238,45 @@ class PlantText(unittest.TestCase):
         self.assertEqual(to_text(sheet), text)
 
     def test_names(self):
-        parts = parse(TOP).parts
-        self.assertEqual(named("2 3 1000000000000000", parts), "2 3 lever=idle")
-        self.assertEqual(named("1 0 0000000000000000", parts), "1 0 all in their first state")
-        self.assertEqual(named("refused 5", parts), "refused 5")
+        lever = parse(TOP)
+        self.assertEqual(named("2 3 1000000000000000", lever), "2 3 lever=idle")
+        self.assertEqual(named("1 0 0000000000000000", lever), "1 0 all in their first state")
+        self.assertEqual(named("refused 5", lever), "refused 5")
+        lever = parse(WEIGHED)
+        self.assertEqual(named("2 16 1000000000000000 6.25%", lever), "2 16 (6.25%) lever=idle")
+        self.assertEqual(
+            named("1 240 0000000000000000 93.8%", lever), "1 240 (93.8%) all in their first state"
+        )
+
+    def test_chances(self):
+        for product, parts, text in CHANCES:
+            self.assertEqual(chance_text(product, parts), text, (product, parts))
+
+    def test_workshop(self):
+        """The states of its list, by brute force over all of the plant's."""
+        plant = read_either((EXAMPLES / "workshop.sheet").read_bytes())
+        found = []
+        for state in itertools.product(*map(range, plant.sizes[: plant.decisions])):
+            if search.test(plant, state, search.Meter(1_000_000)) is not None:
+                product = prod(weights[value] for weights, value in zip(plant.costs, state))
+                found.append((-product, search.to_words(state)[1]))
+        lines = [
+            f"{rank} {-turned} {code:016x} {chance_text(-turned, plant.decisions)}"
+            for rank, (turned, code) in enumerate(sorted(found), 1)
+        ]
+        listed = (EXAMPLES / "workshop.list").read_text().splitlines()
+        self.assertEqual(listed[:-1], lines[:16])
+        self.assertEqual(len(lines), 137)
+
+    def test_workshop_counts(self):
+        """The last line of its list, by the outside program with the host's settings."""
+        sheet = (EXAMPLES / "workshop.sheet").read_bytes()
+        lists = [0] * 16, [0] * 16, bytearray(16 * search.STATE_BYTES)
+        settings = listing.Settings(16, *lists, [0] * 8192, [0] * 128, 0, 1_000_000)
+        run = listing.listing(sheet, settings, listing.PRODUCTS)
+        counts = f"tested {run.tested} learned {run.learned} unkept {run.unkept} trials {run.trials}"
+        last = (EXAMPLES / "workshop.list").read_text().splitlines()[-1]
+        self.assertEqual(last, f"{run.ending} {run.listed} {counts}")
 
     def test_endings(self):
         counts = "tested 9 learned 0 unkept 0 trials 9"
@@ -178,10 +289,10 @@ class PlantText(unittest.TestCase):
         }
         for ending, meaning in words.items():
             line = f"{ending} {counts}"
-            self.assertEqual(named(line, parse(TOP).parts), f"{line}\n{meaning}")
+            self.assertEqual(named(line, parse(TOP)), f"{line}\n{meaning}")
 
     def test_conflicts(self):
-        parts = parse("\n".join(f"part {name}: well 0, ill 1" for name in "abc")).parts
+        plant = parse("\n".join(f"part {name}: well 0, ill 1" for name in "abc"))
         words = {
             "0000000000000000 0000000000000000": "no state fits",
             "4000000000000000 0100000000000000": "b ill: impossible",
@@ -189,12 +300,14 @@ class PlantText(unittest.TestCase):
             "e000000000000000 0000000000000000": "a well, b well and c well: not together",
         }
         for conflict, expected in words.items():
-            self.assertEqual(named("conflict " + conflict, parts), expected)
+            self.assertEqual(named("conflict " + conflict, plant), expected)
 
     def test_lists_of_others(self):
-        for line, message in OF_OTHERS:
+        of_others = [(TOP, *pair) for pair in OF_OTHERS]
+        of_others += [(WEIGHED, *pair) for pair in OF_OTHERS_WEIGHED]
+        for plant, line, message in of_others:
             with self.subTest(line), self.assertRaises(TextError) as caught:
-                named(line, parse(TOP).parts)
+                named(line, parse(plant))
             self.assertEqual(str(caught.exception), f"{message}; {OTHER}")
 
     def test_hidden(self):
@@ -258,6 +371,9 @@ class PlantText(unittest.TestCase):
             absent = str(Path(folder, "absent"))
             self.assertEqual(main(["names", absent]), f"{absent}: No such file or directory")
             self.assertIn("'make host' makes it", main(["list", str(text), "--host", absent]))
+            text.write_text(WEIGHED)
+            no_tables = f"{text}: has weights; tables hold costs, of edition 1"
+            self.assertEqual(main(["tables", str(text)]), no_tables)
 
     def test_help(self):
         for words, status in ((["--help"], 0), ([], 2), (["sheets", "a"], 2)):

@@ -7,7 +7,9 @@ set -euo pipefail
 cd "$(dirname "$0")/.."
 archive=$1
 out=target/host
-examples=(small driveline ties spent)
+costs=(small driveline ties spent)
+weights=(workshop)
+examples=("${costs[@]}" "${weights[@]}")
 strict=(-Wall -Wextra -Wpedantic -Wconversion -Werror -Iinclude)
 rm -rf "$out"
 mkdir -p "$out"
@@ -94,11 +96,30 @@ tables_refused() {
     prints "$1" 'refused 16' write <<< "${tables/costs 0 3/costs 0}"
     prints "$1" 'refused 17' write <<< "${tables/sizes 2$'\n'costs 0 3/sizes 0$'\n'costs}"
     prints "$1" 'refused 5' read < /dev/null
+    prints "$1" 'refused 6' read < examples/workshop.sheet
     for said in "${tables/3/many}" "${tables/3/65536}" "${tables/counts/count}" "${tables/1 0 0/1 0}"; do
         status=0
         "$1" write <<< "$said" > "$out/printed" 2> "$out/reason" || status=$?
         [ "$status" = 2 ] && [ ! -s "$out/printed" ] || fail "leading_tables write: $said"
     done
+}
+
+# $1 host: the small plant with weights, eight parts with the greatest product, refusals
+weights_listed() {
+    local sheet='\x02\x10\x20\x10\xf8\x08\x0f\x01\0\x98\x10\x06\x01\x04\x42\0'
+    local eight='\x02\x40\0\0\xb2\x7f\x87\xf8\x7f\x87\xf8\x7f\x87\xf8\x7f\x87\xf8'
+    local first='1 7680 0100000000000000 11.7%'
+    printf "$sheet" | prints "$1" "$first"$'\n2 3584 1000000000000000 5.47%
+3 512 1100000000000000 1 in 128\nall 3 tested 4 learned 1 unkept 0 trials 15'
+    printf "$sheet" | prints "$1" "$first"$'\nenough 1 tested 2 learned 1 unkept 0 trials 13
+hidden 1 0\nconflict c000000000000000 0000000000000000' -k 1 -v -c
+    printf "$eight" | prints "$1" $'1 17878103347812890625 1000000000000000 96.9%
+2 7011020920710937500 0000000000000000 38.0%\nall 2 tested 2 learned 0 unkept 0 trials 0'
+    printf "$sheet" | prints "$1" 'refused 1' -k 0
+    printf "$sheet" | prints "$1" 'refused 3' -q 4097
+    printf "${sheet/02/03}" | prints "$1" 'refused 6'
+    printf "${sheet/x10/x48}" | prints "$1" 'refused 7'
+    printf "${sheet/f8/80}" | prints "$1" 'refused 20'
 }
 
 # the programs of a folder: the test of the header, each list, some refusals
@@ -132,6 +153,7 @@ all 2 tested 2 learned 0 unkept 0 trials 0\nhidden 1\nhidden 2'
     prints "$host" 'refused 3' -q 4097 $small
     prints "$host" 'refused 5' /dev/null
     prints "$host" 'refused 6' host/leading_host.c
+    weights_listed "$host"
     messages "$host"
 }
 
@@ -194,7 +216,7 @@ check_manual() {
     local name number
     synopsis > "$out/synopsis.c"
     "$1" -std=c11 "${strict[@]}" -fsyntax-only "$out/synopsis.c"
-    for name in leading_{list,held,test,reduce,write,read,version}; do
+    for name in leading_{list,list_weights,held,test,reduce,write,read,version}; do
         grep -q "$name(" "$out/synopsis.c" || fail "manual: no declaration of $name"
     done
     for name in $(grep -o 'LEADING_[A-Z_]*' man/leading.3 | sort -u); do
@@ -211,7 +233,7 @@ check_manual() {
 check_pages() {
     local name page=$PWD/$out/page
     have groff || return 0
-    for name in leading leading_{list,held,test,reduce,write,read,version}; do
+    for name in leading leading_{list,list_weights,held,test,reduce,write,read,version}; do
         (cd "$1/share/man" && groff -man -ww -Tutf8 "man3/$name.3") > "$page.$name" 2> "$page.said"
         [ ! -s "$page.said" ] || fail "manual: $(cat "$page.said")"
         cmp "$page.$name" "$page.leading"
@@ -258,7 +280,7 @@ check_texts() {
     local name
     python3 -B examples/test_plant_text.py
     python3 -B examples/plant_text.py check examples/*.plant
-    for name in "${examples[@]}"; do
+    for name in "${costs[@]}"; do
         python3 -B outside/listing.py < "examples/$name.sheet" | cmp - "examples/$name.list"
     done
     say "texts, sheets and lists of the examples"
@@ -270,10 +292,10 @@ same_tables() {
     "$out/leading_tables" read < "$1" | cmp - "$2"
 }
 
-# on all examples and the corpus: the bytes that plant_text.py packs, and its tables
+# on all examples with costs and the corpus: the bytes that plant_text.py packs, and its tables
 check_tables() {
     local name sheet count=0 text=$out/again.plant tables=$out/tables
-    for name in "${examples[@]}"; do
+    for name in "${costs[@]}"; do
         python3 -B examples/plant_text.py tables "examples/$name.plant" > "$tables"
         same_tables "examples/$name.sheet" "$tables"
     done
@@ -285,7 +307,7 @@ check_tables() {
         cmp "$out/again.sheet" "$sheet"
         count=$((count + 1))
     done
-    say "sheets of ${#examples[@]} examples and $count plants of the corpus: written as plant_text.py packs them, and read"
+    say "sheets of ${#costs[@]} examples and $count plants of the corpus: written as plant_text.py packs them, and read"
 }
 
 # $1 what the command has to print, its words: from a text to a named list
@@ -309,12 +331,17 @@ check_named() {
     lists "$said" -k 3 examples/small.plant
     lists "$(in_readme examples/README.md enough)" -k 2 examples/small.plant
     lists "$(in_readme examples/README.md hidden)" -v examples/small.plant
+    lists "$(in_readme examples/README.md weights)" -k 7 examples/workshop.plant
+    lists "$(in_readme README.md weights)" -k 6 examples/workshop.plant
+    prints "$out/leading_host" "$(in_readme examples/README.md host)" -k 1 examples/workshop.sheet
     lists $'spent 0 tested 1 learned 0 unkept 0 trials 5\nthere may be more: the limit struck' \
         --limit 5 examples/small.plant
     printf 'part lever: ahead 0, idle 3\nnever\n' > "$none"
     lists $'all 0 tested 1 learned 1 unkept 0 trials 0\nno explanation\nno state fits' "$none"
     python3 -B examples/plant_text.py list -k 30 examples/ties.plant > "$out/printed"
     grep -q '^all 30 ' "$out/printed" || fail "ties -k 30: not all"
+    python3 -B examples/plant_text.py list -k 137 examples/workshop.plant > "$out/printed"
+    grep -q '^all 137 ' "$out/printed" || fail "workshop -k 137: not all"
     python3 -B examples/plant_text.py list -k 0 "$none" > "$out/printed" 2> "$out/reason" ||
         status=$?
     [ "$status" = 1 ] || fail "list -k 0: status $status"

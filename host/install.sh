@@ -7,7 +7,7 @@ cd "$(dirname "$0")/.."
 archive=$1
 prefix=$2
 to=${3:-}$prefix
-calls=(leading_list leading_held leading_test leading_reduce leading_write leading_read leading_version)
+calls=(leading_list leading_list_weights leading_held leading_test leading_reduce leading_write leading_read leading_version)
 
 fail() { echo "install: $*" >&2; exit 1; }
 

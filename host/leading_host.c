@@ -1,10 +1,14 @@
-/* Lists the leading states of a plant sheet: a small host over leading.h.
+/* Lists the leading states of a plant sheet, of either edition as its first byte says:
+ * a small host over leading.h.
  *
  * Standard output is what the program `leading` prints, with -v then the values of the
- * hidden variables, and with -c the conflicts; the reason of a refusal goes to standard
- * error. Exit status: 0 a list, 1 refused, 2 bad usage.
+ * hidden variables, and with -c the conflicts; of a sheet with weights a state's line
+ * has the product in the place of the cost, and the chance at its end. The reason of a
+ * refusal goes to standard error. Exit status: 0 a list, 1 refused, 2 bad usage.
  */
 #include "leading.h"
+
+#include "chance.h"
 
 #include <errno.h>
 #include <inttypes.h>
@@ -15,7 +19,8 @@
 static const char usage[] =
     "usage: leading_host [-k STATES] [-q ENTRIES] [-s ENTRIES] [-l TRIALS] [-v] [-c]\n"
     "                    [FILE]\n"
-    "  lists the leading states of the plant sheet in FILE or standard input\n"
+    "  lists the leading states of the plant sheet in FILE or standard input, a line\n"
+    "  each: RANK COST CODE, or of a sheet with weights RANK PRODUCT CODE CHANCE\n"
     "  -k  states to list at most (16); a run that ends 'all' has listed every state\n"
     "      that fits, after 'enough', 'full' and 'spent' there may be more\n"
     "  -q  queue entries (4096)\n"
@@ -43,7 +48,7 @@ struct settings {
 };
 
 struct buffers {
-    uint64_t *codes, *queue, *store;
+    uint64_t *codes, *products, *queue, *store;
     uint32_t *costs;
     uint8_t *values;
 };
@@ -131,14 +136,20 @@ static int is_text(const uint8_t *bytes, size_t length)
     return length > 0;
 }
 
+static int has_weights(const uint8_t *sheet, size_t length)
+{
+    return length > 0 && sheet[0] == LEADING_EDITION_WEIGHTS;
+}
+
 static int lend(struct buffers *b, const struct settings *s)
 {
     b->codes = calloc((size_t)s->k + 1, sizeof *b->codes);
     b->costs = calloc((size_t)s->k + 1, sizeof *b->costs);
+    b->products = calloc((size_t)s->k + 1, sizeof *b->products);
     b->values = calloc(LEADING_VALUES_BYTES(s->k) + 1, sizeof *b->values);
     b->queue = calloc(LEADING_QUEUE_WORDS(s->queue) + 1, sizeof *b->queue);
     b->store = calloc(LEADING_STORE_WORDS(s->store) + 1, sizeof *b->store);
-    if (b->codes && b->costs && b->values && b->queue && b->store)
+    if (b->codes && b->costs && b->products && b->values && b->queue && b->store)
         return 1;
     return fail("buffers", "no memory");
 }
@@ -147,15 +158,28 @@ static void give_back(struct buffers *b)
 {
     free(b->codes);
     free(b->costs);
+    free(b->products);
     free(b->values);
     free(b->queue);
     free(b->store);
 }
 
-static void print_run(const struct buffers *b, const uint32_t *result)
+static void print_costs(const struct buffers *b, uint32_t listed)
 {
-    for (uint32_t i = 0; i < result[LEADING_LISTED]; i++)
+    for (uint32_t i = 0; i < listed; i++)
         printf("%" PRIu32 " %" PRIu32 " %016" PRIx64 "\n", i + 1, b->costs[i], b->codes[i]);
+}
+
+static void print_products(const struct buffers *b, uint32_t listed, unsigned parts)
+{
+    char chance[CHANCE_BYTES];
+    for (uint32_t i = 0; i < listed; i++)
+        printf("%" PRIu32 " %" PRIu64 " %016" PRIx64 " %s\n", i + 1, b->products[i], b->codes[i],
+               chance_text(chance, b->products[i], parts));
+}
+
+static void print_counts(const uint32_t *result)
+{
     printf("%s %" PRIu32 " tested %" PRIu32 " learned %" PRIu32 " unkept %" PRIu32
            " trials %" PRIu32 "\n",
            leading_ending_text(result[LEADING_ENDING]), result[LEADING_LISTED],
@@ -193,24 +217,51 @@ static void print_refusal(uint32_t refused, const uint8_t *sheet, size_t length)
              "python3 examples/plant_text.py sheet FILE.plant -o FILE.sheet");
 }
 
+static uint32_t list_costs(const struct settings *s, const uint8_t *sheet, size_t length,
+                           struct buffers *b, uint32_t *result)
+{
+    return leading_list(sheet, length, b->codes, s->k, b->costs, s->k,
+                        b->values, LEADING_VALUES_BYTES(s->k),
+                        b->queue, LEADING_QUEUE_WORDS(s->queue),
+                        b->store, LEADING_STORE_WORDS(s->store),
+                        result, LEADING_RESULT_WORDS, s->k, 0, s->limit);
+}
+
+static uint32_t list_weights(const struct settings *s, const uint8_t *sheet, size_t length,
+                             struct buffers *b, uint32_t *result)
+{
+    return leading_list_weights(sheet, length, b->codes, s->k, b->products, s->k,
+                                b->values, LEADING_VALUES_BYTES(s->k),
+                                b->queue, LEADING_QUEUE_WORDS(s->queue),
+                                b->store, LEADING_STORE_WORDS(s->store),
+                                result, LEADING_RESULT_WORDS, s->k, 0, s->limit);
+}
+
+static void print_run(const struct settings *s, const uint8_t *sheet, size_t length,
+                      const struct buffers *b, const uint32_t *result)
+{
+    if (has_weights(sheet, length))
+        print_products(b, result[LEADING_LISTED], LEADING_PARTS(sheet));
+    else
+        print_costs(b, result[LEADING_LISTED]);
+    print_counts(result);
+    if (s->hidden)
+        print_hidden(sheet, b->values, result[LEADING_LISTED]);
+    if (s->conflicts)
+        print_conflicts(b->store, result[LEADING_LEARNED]);
+}
+
+/* A sheet of no edition goes to the call that takes edition 1, which refuses it. */
 static uint32_t list(const struct settings *s, const uint8_t *sheet, size_t length,
                      struct buffers *b)
 {
     uint32_t result[LEADING_RESULT_WORDS];
-    uint32_t refused = leading_list(sheet, length, b->codes, s->k, b->costs, s->k,
-                                    b->values, LEADING_VALUES_BYTES(s->k),
-                                    b->queue, LEADING_QUEUE_WORDS(s->queue),
-                                    b->store, LEADING_STORE_WORDS(s->store),
-                                    result, LEADING_RESULT_WORDS, s->k, 0, s->limit);
-    if (refused == LEADING_OK) {
-        print_run(b, result);
-        if (s->hidden)
-            print_hidden(sheet, b->values, result[LEADING_LISTED]);
-        if (s->conflicts)
-            print_conflicts(b->store, result[LEADING_LEARNED]);
-    } else {
+    uint32_t refused = has_weights(sheet, length) ? list_weights(s, sheet, length, b, result)
+                                                  : list_costs(s, sheet, length, b, result);
+    if (refused == LEADING_OK)
+        print_run(s, sheet, length, b, result);
+    else
         print_refusal(refused, sheet, length);
-    }
     return refused;
 }
 
@@ -219,7 +270,7 @@ int main(int argc, char **argv)
     /* One byte more than any sheet has: the sheet is too long, not cut. */
     static uint8_t sheet[LEADING_SHEET_BYTES_MOST + 1];
     struct settings s = {16, 4096, 64, 1000000, 0, 0, NULL};
-    struct buffers b = {NULL, NULL, NULL, NULL, NULL};
+    struct buffers b = {NULL, NULL, NULL, NULL, NULL, NULL};
     size_t length = 0;
 
     if (wants_help(argc, argv))

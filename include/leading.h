@@ -9,6 +9,9 @@
  * trial limit each was given, and a state on both has the same hidden values. That
  * is proved of the code that you link.
  *
+ * leading_list_weights() does the same with a workshop's chances in place of costs:
+ * the likeliest state comes first, equal ones by code.
+ *
  * leading_test() says whether given states of some parts can be together, and shows
  * values of all variables where they can; leading_reduce() says which of them are to
  * blame where they cannot.
@@ -32,14 +35,15 @@
  * - Stack: see LEADING_STACK_BYTES.
  *
  * Words used here. A part (decision variable) has a number from 0 and up to 16
- * states, numbered from 0, each with a cost. Hidden variables, as a shaft's
- * motion, are tied to the parts by clauses. A state of the plant gives every
- * part a state; its cost is the sum, and it fits if some values of the hidden
- * variables make every clause hold.
+ * states, numbered from 0, each with a cost or, in a sheet of edition 2, with a
+ * weight, its chance in 256ths. Hidden variables, as a shaft's motion, are tied to
+ * the parts by clauses. A state of the plant gives every part a state; its cost is
+ * the sum of theirs, its product that of their weights, and it fits if some values
+ * of the hidden variables make every clause hold.
  *
  * Example: the small plant. This very text is compiled and run by the gate, as
- * C and as C++; so are the examples at leading_held(), leading_reduce() and
- * leading_read().
+ * C and as C++; so are the examples at leading_list_weights(), leading_held(),
+ * leading_reduce() and leading_read().
  *
  * @code
  * #include <inttypes.h>
@@ -108,17 +112,18 @@ extern "C" {
 /* Of this interface. MAJOR rises with a change that breaks callers, MINOR with
  * one that adds to it, or after which an answer says more. */
 #define LEADING_VERSION_MAJOR 1
-#define LEADING_VERSION_MINOR 1
+#define LEADING_VERSION_MINOR 2
 #define LEADING_VERSION_PATCH 0
-#define LEADING_VERSION "1.1.0"
+#define LEADING_VERSION "1.2.0"
 
 /* The three in one number, for #if and for leading_version(). */
 #define LEADING_VERSION_NUMBER                                       \
     (LEADING_VERSION_MAJOR * 65536u + LEADING_VERSION_MINOR * 256u + \
      LEADING_VERSION_PATCH)
 
-/* The edition of the plant sheet that is read and written: its first byte. */
+/* The editions of the plant sheet, its first byte: with costs, and with weights. */
 #define LEADING_EDITION 1
+#define LEADING_EDITION_WEIGHTS 2
 
 /* ---- Limits and sizes --------------------------------------------------- */
 
@@ -132,6 +137,12 @@ extern "C" {
 #define LEADING_K_MOST 4096             /* states listed by one call; at least 1 */
 #define LEADING_QUEUE_ENTRIES_MOST 4096 /* at least 1 */
 #define LEADING_STORE_ENTRIES_MOST 4096 /* at least 0 */
+
+/* Of a sheet with weights; the other limits are those above. */
+#define LEADING_PARTS_MOST_WEIGHTS 8           /* at least 1 */
+#define LEADING_WEIGHT_MOST 255                /* of a part's state; at least 1 */
+#define LEADING_WEIGHT_WHOLE 256               /* of which a weight is a part */
+#define LEADING_SHEET_BYTES_MOST_WEIGHTS 10968 /* a longer one is refused */
 
 /* uint64_t words of a queue or a store with so many entries. */
 #define LEADING_QUEUE_WORDS(entries) ((size_t)2 * (entries))
@@ -188,17 +199,18 @@ extern "C" {
  * reading. A refused call changes no buffer, the result included.
  *
  * leading_list is refused by 1 to 13 and by 19, which comes right after 2;
- * leading_test and leading_reduce by 2 and by 5 to 15, leading_read by 5 to 13.
- * leading_write has an order of its own: 16, 17, 7, 8, 9, then 10 and 11 literal by
- * literal, then 18.
+ * leading_list_weights by these and by 20; leading_test and leading_reduce by 2, by
+ * 5 to 15 and by 20; leading_read by 5 to 13. leading_write has an order of its own:
+ * 16, 17, 7, 8, 9, then 10 and 11 literal by literal, then 18.
  */
 enum leading_refusal {
     LEADING_OK = 0,
 
     /* The caller's; looked at before the sheet. */
     LEADING_BAD_K = 1,      /* k is 0 or above LEADING_K_MOST */
-    LEADING_BAD_OUTPUT = 2, /* of a listing: codes_len or costs_len below k, or
-                               result_len below LEADING_RESULT_WORDS; of a test
+    LEADING_BAD_OUTPUT = 2, /* of a listing: codes_len, costs_len or
+                               products_len below k, or result_len
+                               below LEADING_RESULT_WORDS; of a test
                                or reduction: result_len below
                                LEADING_ANSWER_WORDS; of a reduction also:
                                conflict_len below LEADING_CONFLICT_WORDS */
@@ -208,13 +220,19 @@ enum leading_refusal {
     LEADING_BAD_STORE = 4,  /* store_len is odd or above 8,192, or held is more
                                than the entries of the store */
 
-    /* The author's, of a sheet or (7 to 11) of tables. */
+    /* The author's, of a sheet or (7 to 11) of tables. 20 is that of a sheet with
+     * weights; it comes where that weight is read. */
     LEADING_SHEET_SHORT = 5,     /* a field runs past the end; comes before the
                                     field's own rule */
-    LEADING_SHEET_EDITION = 6,   /* the edition is not LEADING_EDITION */
-    LEADING_SHEET_PARTS = 7,     /* no part, or more than 16 */
+    LEADING_SHEET_EDITION = 6,   /* the edition is none that the call takes: of
+                                    leading_list and leading_read not
+                                    LEADING_EDITION, of leading_list_weights not
+                                    LEADING_EDITION_WEIGHTS, of leading_test and
+                                    leading_reduce neither */
+    LEADING_SHEET_PARTS = 7,     /* no part, or more than 16, with weights 8 */
     LEADING_SHEET_HIDDEN = 8,    /* more than 32 hidden variables */
     LEADING_SHEET_CLAUSES = 9,   /* more than 512 clauses */
+    LEADING_SHEET_WEIGHT = 20,   /* a weight is 0 */
     LEADING_SHEET_VARIABLE = 10, /* a literal names a variable that is not there */
     LEADING_SHEET_VALUE = 11,    /* a literal names a value that its variable has
                                     not */
@@ -244,8 +262,8 @@ enum leading_numbers {
 /* The places of a listing's result words. */
 enum leading_result {
     LEADING_ENDING = 0,  /* an enum leading_ending */
-    LEADING_LISTED = 1,  /* states listed: words of codes and of costs written,
-                          * and of values LEADING_STATE_BYTES for each */
+    LEADING_LISTED = 1,  /* states listed: words of codes and of costs or products
+                          * written, and of values LEADING_STATE_BYTES for each */
     LEADING_TESTED = 2,  /* states of the plant tested to the end */
     LEADING_LEARNED = 3, /* conflicts found in this run and put in the store */
     LEADING_UNKEPT = 4,  /* states that did not fit, met with the store full:
@@ -304,17 +322,21 @@ static inline const char *leading_refusal_text(uint32_t refusal)
     switch (refusal) {
     case LEADING_OK: return "not refused";
     case LEADING_BAD_K: return "k is not 1 to 4096";
-    case LEADING_BAD_OUTPUT: return "codes, costs, conflict or result too short";
+    case LEADING_BAD_OUTPUT:
+        return "codes, costs, products, conflict or result too short";
     case LEADING_BAD_VALUES_ROOM:
         return "the values are shorter than 48 bytes for each of k states";
     case LEADING_BAD_QUEUE: return "the queue is not of 1 to 4096 entries";
     case LEADING_BAD_STORE:
         return "the store is not of 0 to 4096 entries, or held is above them";
     case LEADING_SHEET_SHORT: return "the sheet ends inside a field";
-    case LEADING_SHEET_EDITION: return "the sheet's edition is not 1";
-    case LEADING_SHEET_PARTS: return "the sheet has no part, or more than 16";
+    case LEADING_SHEET_EDITION:
+        return "the sheet's edition is none that this call takes";
+    case LEADING_SHEET_PARTS:
+        return "the sheet has no part, or more than 16, with weights 8";
     case LEADING_SHEET_HIDDEN: return "the sheet has more than 32 hidden variables";
     case LEADING_SHEET_CLAUSES: return "the sheet has more than 512 clauses";
+    case LEADING_SHEET_WEIGHT: return "a weight is 0";
     case LEADING_SHEET_VARIABLE: return "a literal's variable is not there";
     case LEADING_SHEET_VALUE: return "a literal's value is outside its variable's";
     case LEADING_SHEET_FILLER: return "a filler bit is not 0";
@@ -376,13 +398,26 @@ static inline const char *leading_reduce_text(uint32_t answer)
  *     (parts first, then hidden ones), 1 sign (0 equal, 1 unequal), 4 the value;
  *     zero bits up to the end of the byte.
  *
+ * That is edition 1. Edition 2 has 1 to 8 parts and, in the place of a state's cost,
+ * 8 bits for its weight, 1 to 255: the chance of that state in 256ths. All else is as
+ * in edition 1. That the weights of a part add up to 256 or less is the author's
+ * affair; the library does not ask.
+ *
+ *                                     edition 1        edition 2
+ *     leading_list                    lists            refused with 6
+ *     leading_list_weights            refused with 6   lists
+ *     leading_test, leading_reduce    answer           answer
+ *     leading_read                    reads            refused with 6
+ *     leading_write                   writes           writes none
+ *
  * A clause holds if one of its literals holds; one without literals never does.
  * leading_write() writes sheets from tables, and leading_read() reads them into
- * tables; examples/plant_text.py does so from a text with names, and back.
+ * tables; examples/plant_text.py writes sheets of both editions from a text with
+ * names, and a text from a sheet.
  */
 
-/* The number of parts that a sheet names, in its second byte: 1 to 16 where the
- * sheet is not refused. */
+/* The number of parts that a sheet of either edition names, in its second byte: 1 to
+ * 16, with weights 1 to 8, where the sheet is not refused. */
 #define LEADING_PARTS(sheet) ((unsigned)(sheet)[1] >> 3 & 31u)
 
 /* The number of hidden variables that it names, in its second and third byte: 0 to
@@ -499,9 +534,97 @@ uint32_t leading_list(const uint8_t *sheet, size_t sheet_len,
                       uint32_t k, size_t held, uint32_t limit);
 
 /*
- * The entries of the store to offer to the next run, as its `held`: after a run
- * that was not refused, with its store and its result words. Every conflict that
- * the run left in the store is among them.
+ * Lists the first k states of the sheet's plant that fit, by chances: the greatest
+ * product first, equal ones by code. It takes what leading_list takes, with products
+ * in the place of costs, and goes by the same steps, endings and refusals; of two
+ * lists of one sheet one begins the other here too, whatever each call was given, and
+ * that is proved.
+ *
+ * sheet, sheet_len
+ *     The plant sheet, any bytes; only read. Anything that is not a whole sheet of
+ *     edition 2 is refused with 5 to 13 or with 20: a sheet of edition 1 with 6, more
+ *     than 8 parts with 7, a weight of 0 with 20.
+ * products, products_len
+ *     Out: the listed states' products, the first at place 0: of each the product of
+ *     the weights of its parts' states. At least k words; fewer are refused with 2, as
+ *     fewer codes are. Before: anything. After: LEADING_LISTED words are written and
+ *     those behind them unchanged. A product is 1 to 255^8, so that none wraps. The
+ *     chance of the state, before anything was seen and with parts that fail
+ *     independently, is its product over LEADING_WEIGHT_WHOLE to the power of
+ *     LEADING_PARTS(sheet); of eight parts that number is 2^64, and no word holds it.
+ * codes, codes_len, values, values_len, queue, queue_len, store, store_len, result,
+ * result_len, k, held, limit
+ *     As for leading_list. A store holds conflicts, in which costs and weights have no
+ *     part: what a run of either call left may be offered to the other.
+ *
+ * Returns LEADING_OK (0) after a run, with the result written; otherwise the
+ * number of the refusal, with every buffer as it was.
+ *
+ * Example: the small plant with weights. The selector is well in 240 of 256 cases, the
+ * clutch in 224.
+ *
+ * @code
+ * #include <inttypes.h>
+ * #include <stdio.h>
+ * #include "leading.h"
+ *
+ * int main(void)
+ * {
+ *     static const uint8_t sheet[] = {
+ *         0x02, 0x10, 0x20, 0x10, 0xf8, 0x08, 0x0f, 0x01,
+ *         0x00, 0x98, 0x10, 0x06, 0x01, 0x04, 0x42, 0x00};
+ *     static uint64_t codes[16], products[16];
+ *     static uint8_t values[LEADING_VALUES_BYTES(16)];
+ *     static uint64_t queue[LEADING_QUEUE_WORDS(4096)];
+ *     static uint64_t store[LEADING_STORE_WORDS(64)];
+ *     uint32_t result[LEADING_RESULT_WORDS];
+ *     double whole = 1; // 256 to the power of the parts
+ *
+ *     uint32_t refused = leading_list_weights(sheet, sizeof sheet,
+ *                                             codes, 16, products, 16,
+ *                                             values, LEADING_VALUES_BYTES(16),
+ *                                             queue, LEADING_QUEUE_WORDS(4096),
+ *                                             store, LEADING_STORE_WORDS(64),
+ *                                             result, LEADING_RESULT_WORDS,
+ *                                             16, 0, 1000000);
+ *     if (refused != LEADING_OK) {
+ *         printf("refused: %s\n", leading_refusal_text(refused));
+ *         return 1;
+ *     }
+ *     for (unsigned part = 0; part < LEADING_PARTS(sheet); part++)
+ *         whole *= LEADING_WEIGHT_WHOLE;
+ *     for (uint32_t i = 0; i < result[LEADING_LISTED]; i++)
+ *         printf("product %" PRIu64 ", chance %.2f%%: selector %u, clutch %u\n",
+ *                products[i], 100 * ((double)products[i] / whole),
+ *                LEADING_VALUE(codes[i], 0), LEADING_VALUE(codes[i], 1));
+ *     if (result[LEADING_ENDING] == LEADING_ALL)
+ *         printf("no other explanation\n");
+ *     return 0;
+ * }
+ * @endcode
+ *
+ * It prints
+ *
+ * @output
+ * product 7680, chance 11.72%: selector 0, clutch 1
+ * product 3584, chance 5.47%: selector 1, clutch 0
+ * product 512, chance 0.78%: selector 1, clutch 1
+ * no other explanation
+ * @endoutput
+ */
+uint32_t leading_list_weights(const uint8_t *sheet, size_t sheet_len,
+                              uint64_t *codes, size_t codes_len,
+                              uint64_t *products, size_t products_len,
+                              uint8_t *values, size_t values_len,
+                              uint64_t *queue, size_t queue_len,
+                              uint64_t *store, size_t store_len,
+                              uint32_t *result, size_t result_len,
+                              uint32_t k, size_t held, uint32_t limit);
+
+/*
+ * The entries of the store to offer to the next run, as its `held`: after a run of
+ * leading_list() or leading_list_weights() that was not refused, with its store and
+ * its result words. Every conflict that the run left in the store is among them.
  *
  * Entries are counted up to the last whose mask is not 0. Where there is none, the
  * first entry may be the conflict with mask 0, which stands alone: it is one where
@@ -574,7 +697,9 @@ static inline size_t leading_held(const uint64_t *store, size_t store_len,
  * hold. Where they can, it shows values of all variables that do, the first ones.
  *
  * sheet, sheet_len
- *     The plant sheet, as for leading_list.
+ *     The plant sheet, of either edition, as its first byte says; any bytes, and only
+ *     read. Costs and weights have no part in the answer. Anything that is no whole
+ *     sheet is refused with 5 to 13 or with 20.
  * mask, values
  *     The states in two words, as those of a conflict. Any parts, all of them or
  *     none: with mask 0 the test is whether any state of the plant fits, and with
@@ -590,8 +715,8 @@ static inline size_t leading_held(const uint64_t *store, size_t store_len,
  *     byte for each part, one for each hidden variable, then zeros. They make every
  *     clause hold, and the parts that were given have the states that were given.
  *     Where several fit they are the first, compared as in a listing; where all parts
- *     were given they are what leading_list shows for that state. After the other
- *     two answers: zeros.
+ *     were given they are what a listing shows for that state. After the other two
+ *     answers: zeros.
  * result, result_len
  *     Out: the two words of enum leading_answer, the first an enum
  *     leading_test_answer. At least LEADING_ANSWER_WORDS words; fewer are refused
@@ -599,8 +724,8 @@ static inline size_t leading_held(const uint64_t *store, size_t store_len,
  *     the two unchanged.
  *
  * Returns LEADING_OK (0) after a test, with the result written; otherwise the
- * number of the refusal (2, 5 to 13, 14, 15, in this order), with every buffer as
- * it was.
+ * number of the refusal (2; the sheet's, 5 to 13 and 20 as it is read; 14, 15), with
+ * every buffer as it was.
  */
 uint32_t leading_test(const uint8_t *sheet, size_t sheet_len,
                       uint64_t mask, uint64_t values, uint32_t limit,
@@ -612,7 +737,7 @@ uint32_t leading_test(const uint8_t *sheet, size_t sheet_len,
  * together: tests them, and then leaves off one part after the other, by number,
  * for good where the rest cannot be together either. What is left is a conflict
  * of which no part can be spared: without any one of its members the others can
- * be together. It may be offered to leading_list in its store.
+ * be together. It may be offered to leading_list or leading_list_weights in a store.
  *
  * sheet, sheet_len, mask, values
  *     As for leading_test.
@@ -628,8 +753,8 @@ uint32_t leading_test(const uint8_t *sheet, size_t sheet_len,
  *     leading_reduce_answer. Otherwise as for leading_test.
  *
  * Returns LEADING_OK (0) after a reduction, with the result written; otherwise the
- * number of the refusal (2, 5 to 13, 14, 15, in this order), with every buffer as
- * it was.
+ * number of the refusal (2; the sheet's, 5 to 13 and 20 as it is read; 14, 15), with
+ * every buffer as it was.
  *
  * Example: the small plant again. Can selector and clutch be well together?
  *
@@ -689,8 +814,8 @@ uint32_t leading_reduce(const uint8_t *sheet, size_t sheet_len,
 /* ---- Tables ------------------------------------------------------------- */
 
 /*
- * What a sheet says, as tables without gaps and three numbers: parts, hidden
- * variables and clauses.
+ * What a sheet of edition 1 says, as tables without gaps and three numbers: parts,
+ * hidden variables and clauses. Sheets with weights have no tables here.
  *
  *     sizes     an entry for each variable, its states or values, 1 to 16; parts
  *               first, then hidden variables
@@ -739,7 +864,7 @@ uint32_t leading_write(const uint8_t *sizes, size_t sizes_len,
  * Reads a sheet into tables, which leading_write() takes as they are.
  *
  * sheet, sheet_len
- *     The plant sheet, as for leading_list.
+ *     The plant sheet, of edition 1, as for leading_list.
  * sizes, costs, counts, literals
  *     Out: the tables, each from place 0 on. Each has LEADING_SIZE_ENTRIES,
  *     LEADING_COST_ENTRIES, LEADING_COUNT_ENTRIES and LEADING_LITERAL_BYTES

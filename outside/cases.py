@@ -1,22 +1,24 @@
-"""Random cases of listings, tests and reductions: whole and damaged sheets, fair
-and extreme settings, junk in every lent buffer, offers and words of every kind."""
+"""Random cases of listings, tests and reductions, on sheets of both editions: whole and
+damaged sheets, fair and extreme settings, junk in every lent buffer, offers and words of
+every kind."""
 
 from array import array
 from dataclasses import dataclass
 from math import prod
 from typing import NamedTuple
 
-from listing import Settings
+from listing import COSTS, ORDERS, PRODUCTS, Order, Settings
+from listing_cases import order_plant
 from plant import Refusal, encode, fields, pack, read
 from search import STATE_BYTES, to_words, well_formed
 from shapes import extension_of, nogood_plant, random_assignment, random_sizes
-from shapes import random_words, relatives, shaped, small_random_plant, spoil
-from sheet_cases import end_damage, flipped, header_damage, longest_plant
+from shapes import random_words, relatives, shaped, small_random_plant, spoil, weighed
+from sheet_cases import end_damage, flipped, header_damage, longest_plant, with_field
 from test_cases import Call, answer_call, middle_plant, tight_plant
 
 U32_MOST = 2**32 - 1
 ENTRIES_MOST = 4096
-LIST, TEST, REDUCE, WRITE, READ = range(5)  # the calls, as replay.c numbers them
+LIST, TEST, REDUCE, WRITE, READ, LIST_WEIGHTS = range(6)  # as replay.c numbers the calls
 TYPES = {1: "B", 2: "H", 4: "I", 8: "Q"}  # of an array, by a word's bytes
 
 
@@ -27,17 +29,21 @@ class Case(NamedTuple):
     sheet: bytes
     settings: Settings
     result: list  # the result words as lent
+    order: Order = COSTS  # of the call
     damaged: bool = False
 
-    kind = LIST
+    @property
+    def kind(self):
+        return LIST if self.order is COSTS else LIST_WEIGHTS
 
     def numbers(self):
         return {name: getattr(self.settings, name) for name in ("k", "held", "limit")}
 
     def lent(self):
-        names = ("codes", "costs", "values", "queue", "store")
-        work = {name: getattr(self.settings, name) for name in names}
-        return {"sheet": self.sheet, **work, "result": self.result}
+        s = self.settings
+        figures = {"codes": s.codes, self.order.name: s.costs, "values": s.values}
+        work = {"queue": s.queue, "store": s.store}
+        return {"sheet": self.sheet, **figures, **work, "result": self.result}
 
 
 class CallCase(NamedTuple):
@@ -120,6 +126,12 @@ def shaft_plant(rng):
     return middle_plant(rng, rng.choice([1, 1, 2, 2, 3, 32]))
 
 
+def full_plant(rng):
+    """As many parts as edition 2 has, so that products go up to the greatest."""
+    sizes = [rng.choice([2, 3, 16]) for _ in range(8)]
+    return shaped(rng, sizes, 8, [2] * rng.randint(0, 6), "wide")
+
+
 PLANTS = [
     (30, small_random_plant),
     (20, nogood_plant),
@@ -127,6 +139,7 @@ PLANTS = [
     (14, tied_plant),
     (12, wide_plant),
     (20, shaft_plant),
+    (8, full_plant),
     (3, crowded_plant),
     (1, long_list_plant),
     (0.2, longest_plant),
@@ -145,8 +158,17 @@ CALL_PLANTS = PLANTS + [(20, searching_plant)]
 
 
 def any_plant(rng, plants=PLANTS):
+    """In edition 1."""
     weights, makers = zip(*plants)
     return rng.choices(makers, weights)[0](rng)
+
+
+def either_plant(rng, plants=PLANTS):
+    """In edition 1 or 2; of these some whose products are close or around 2^63."""
+    plant = any_plant(rng, plants)
+    if rng.random() < 0.5:
+        return plant
+    return order_plant(rng) if rng.random() < 0.1 else weighed(rng, plant)
 
 
 # ---- damage ----------------------------------------------------------------
@@ -178,7 +200,24 @@ def extended(rng, plant):
 
 
 def noise(rng, plant):
-    return rng.choice([b"", b"\1", b"\1\x10"]) + rng.randbytes(rng.randrange(60))
+    begins = rng.choice([b"", encode(plant)[:1], encode(plant)[:2]])
+    return begins + rng.randbytes(rng.randrange(60))
+
+
+def border_damage(rng, plant):
+    """D just beyond the edition's most, or at another border."""
+    most = plant.edition.decisions_most
+    return with_field(plant, "D", rng.choice([most + 1, most + 1, most + 1, most, 0, 31]))
+
+
+def figure_damage(rng, plant):
+    """A cost or weight of zero, whole or cut right behind or inside it."""
+    name = plant.edition.figure
+    pick = rng.randrange(sum(map(len, plant.costs)))
+    places = [place for place, field in enumerate(fields(plant)) if field[0] == name]
+    end = sum(width for _, width, _ in fields(plant)[: places[pick] + 1])
+    sheet = with_field(plant, name, 0, pick)
+    return sheet[: rng.choice([len(sheet), (end + 7) // 8, (end - 1) // 8])]
 
 
 def quiet_damage(rng, plant):
@@ -187,7 +226,7 @@ def quiet_damage(rng, plant):
     for _ in range(8):
         other = flipped(rng, sheet)
         try:
-            read(other)
+            read(other, plant.edition)
             return other
         except Refusal:
             continue
@@ -205,6 +244,10 @@ DAMAGE = [
     cut,
     extended,
     noise,
+    border_damage,
+    border_damage,
+    figure_damage,
+    figure_damage,
     lambda rng, plant: rng.choice(end_damage(plant)),
     lambda rng, plant: rng.choice(header_damage(plant)),
 ]
@@ -333,12 +376,12 @@ def put_offers(settings, offers):
     settings.store[: len(words)] = words
 
 
-def lend(rng, shape):
+def lend(rng, shape, order):
     """Buffers of these sizes, all junk."""
     return Settings(
         shape.k,
         junk(rng, shape.codes, 8),
-        junk(rng, shape.costs, 4),
+        junk(rng, shape.costs, order.width),
         bytearray(junk(rng, shape.values, 1)),
         junk(rng, shape.queue, 8),
         junk(rng, shape.store, 8),
@@ -347,8 +390,15 @@ def lend(rng, shape):
     )
 
 
+def any_order(rng, plant):
+    """That of the call which takes the plant's edition; now and then the other one."""
+    own = ORDERS[plant.edition.number]
+    return rng.choice([COSTS, PRODUCTS]) if rng.random() < 0.04 else own
+
+
 def any_case(rng):
-    plant = any_plant(rng)
+    plant = either_plant(rng)
+    order = any_order(rng, plant)
     shape = fair_shape(rng, plant)
     if rng.random() < 0.2:
         for _ in range(rng.randint(1, 2)):
@@ -357,11 +407,11 @@ def any_case(rng):
         make_twice_wrong(rng, shape)
     damaged = rng.random() < 0.3
     sheet = rng.choice(DAMAGE)(rng, plant) if damaged else encode(plant)
-    settings = lend(rng, shape)
+    settings = lend(rng, shape, order)
     offers = any_offers(rng, plant, min(shape.held, 30))
     if rng.random() < 0.9:
         put_offers(settings, offers)
-    return Case(sheet, settings, junk(rng, shape.result, 4), damaged)
+    return Case(sheet, settings, junk(rng, shape.result, 4), order, damaged)
 
 
 # ---- tests and reductions --------------------------------------------------
@@ -406,7 +456,7 @@ def answer_room(rng):
 
 
 def any_call(rng):
-    plant = any_plant(rng, CALL_PLANTS)
+    plant = either_plant(rng, CALL_PLANTS)
     damaged = rng.random() < 0.3
     sheet = rng.choice(DAMAGE)(rng, plant) if damaged else encode(plant)
     kind = rng.randrange(2)

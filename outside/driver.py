@@ -17,6 +17,7 @@ WIDTHS = {
     "sheet": 1,
     "codes": 8,
     "costs": 4,
+    "products": 8,
     "values": 1,
     "queue": 8,
     "store": 8,

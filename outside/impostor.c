@@ -1,7 +1,7 @@
 /* Wrong calls over the right ones, to see that scale.py finds them: IMPOSTOR says
- * which; 1 to 8, 35 to 46 and 51 to 65 list, 9 to 13 and 47 to 50 test, 14 to 19
- * reduce, 20 to 29 write, 30 to 34 read.
- * Linked with --wrap for each of the five; no part of the gate. */
+ * which; 1 to 8, 35 to 46, 51 to 65 and 66 list, 67 to 80 list by weights, 9 to 13, 47 to
+ * 50, 81 and 82 test, 14 to 19 and 83 reduce, 20 to 29 write, 30 to 34 and 84 read.
+ * Linked with --wrap for each of the six; no part of the gate. */
 #include "leading.h"
 
 #include <string.h>
@@ -10,6 +10,12 @@
     const uint8_t *sheet, size_t sheet_len, uint64_t *codes, size_t codes_len, \
         uint32_t *costs, size_t costs_len, uint8_t *values, size_t values_len, \
         uint64_t *queue, size_t queue_len, uint64_t *store, size_t store_len,  \
+        uint32_t *result, size_t result_len, uint32_t k, size_t held, uint32_t limit
+
+#define WEIGHED                                                                      \
+    const uint8_t *sheet, size_t sheet_len, uint64_t *codes, size_t codes_len,       \
+        uint64_t *products, size_t products_len, uint8_t *values, size_t values_len, \
+        uint64_t *queue, size_t queue_len, uint64_t *store, size_t store_len,        \
         uint32_t *result, size_t result_len, uint32_t k, size_t held, uint32_t limit
 
 #define TESTED                                                                        \
@@ -32,6 +38,8 @@
 
 uint32_t __real_leading_list(LENT);
 uint32_t __wrap_leading_list(LENT);
+uint32_t __real_leading_list_weights(WEIGHED);
+uint32_t __wrap_leading_list_weights(WEIGHED);
 uint32_t __real_leading_test(TESTED);
 uint32_t __wrap_leading_test(TESTED);
 uint32_t __real_leading_reduce(REDUCED);
@@ -108,6 +116,8 @@ static void show_otherwise(const uint8_t *sheet, size_t sheet_len, uint8_t *valu
 }
 
 /* ---- conflicts that contain one another ---- */
+
+#define OTHER_STORE (50 < IMPOSTOR && IMPOSTOR < 66)
 
 struct entry {
     uint64_t mask, values;
@@ -310,6 +320,182 @@ static uint32_t refused_otherwise(uint32_t refused, size_t values_len, size_t qu
     return refused;
 }
 
+/* ---- edition 2 ---- */
+
+enum { SECOND_EDITION = 2, WEIGHTS_AT = 29, SIZE_BITS = 4, WEIGHT_BITS = 8, ZERO_WEIGHT = 20 };
+
+static unsigned bits(const uint8_t *sheet, size_t place, unsigned width)
+{
+    unsigned number = 0;
+    for (size_t at = place; at < place + width; at++)
+        number = number << 1 | (sheet[at / 8] >> (7 - at % 8) & 1u);
+    return number;
+}
+
+/* The place of a part's size, where a sheet has it whole. */
+static size_t size_place(const uint8_t *sheet, unsigned part)
+{
+    size_t at = WEIGHTS_AT;
+    for (; part > 0; part--)
+        at += SIZE_BITS + WEIGHT_BITS * (bits(sheet, at, SIZE_BITS) + 1);
+    return at;
+}
+
+static uint64_t sum_of(const uint8_t *sheet, uint64_t code)
+{
+    uint64_t sum = 0;
+    for (unsigned part = 0; part < LEADING_PARTS(sheet); part++)
+        sum += bits(sheet, size_place(sheet, part) + SIZE_BITS +
+                               (size_t)WEIGHT_BITS * LEADING_VALUE(code, part), WEIGHT_BITS);
+    return sum;
+}
+
+/* Each weight of zero made 1, as far as the sheet goes. */
+static void raise_weights(uint8_t *sheet, size_t sheet_len)
+{
+    size_t at = WEIGHTS_AT;
+    for (unsigned part = 0; part < LEADING_PARTS(sheet); part++) {
+        unsigned size = at + SIZE_BITS <= 8 * sheet_len ? bits(sheet, at, SIZE_BITS) + 1 : 0;
+        at += SIZE_BITS;
+        for (; size > 0 && at + WEIGHT_BITS <= 8 * sheet_len; size--, at += WEIGHT_BITS) {
+            size_t last = at + WEIGHT_BITS - 1;
+            if (bits(sheet, at, WEIGHT_BITS) == 0)
+                sheet[last / 8] |= (uint8_t)(128u >> last % 8);
+        }
+        if (size > 0)
+            return;
+    }
+}
+
+/* A right sheet for one that is refused. */
+static const uint8_t *righted(const uint8_t *sheet, size_t sheet_len)
+{
+    static uint8_t copy[3 * LEADING_SHEET_BYTES_MOST];
+    if (sheet_len < 4 || sheet_len > sizeof copy || sheet[0] != SECOND_EDITION)
+        return sheet;
+    memcpy(copy, sheet, sheet_len);
+    if (IMPOSTOR == 72 || IMPOSTOR == 82) /* a weight of zero taken */
+        raise_weights(copy, sheet_len);
+    if (IMPOSTOR == 74 && LEADING_PARTS(sheet) == 9) /* so are nine parts, as eight */
+        copy[1] = (uint8_t)(copy[1] - 8);
+    return copy;
+}
+
+/* Whether it is a weight of zero that runs past the end, if zeros are read there. */
+static int zero_past_end(const uint8_t *sheet, size_t sheet_len)
+{
+    static uint8_t longer[3 * LEADING_SHEET_BYTES_MOST];
+    uint8_t shown[LEADING_STATE_BYTES];
+    uint32_t words[LEADING_ANSWER_WORDS];
+    if (sheet_len >= sizeof longer)
+        return 0;
+    if (sheet_len > 0)
+        memcpy(longer, sheet, sheet_len);
+    longer[sheet_len] = 0;
+    return __real_leading_test(longer, sheet_len + 1, 0, 0, 0, shown, words,
+                               LEADING_ANSWER_WORDS) == ZERO_WEIGHT;
+}
+
+/* Whether the state at one place comes behind the next one's. */
+static int behind(const uint8_t *sheet, const uint64_t *codes, const uint64_t *products, size_t i)
+{
+    uint64_t own = products[i], next = products[i + 1], changed = codes[i] ^ codes[i + 1];
+    int part = 60;
+    while (part > 0 && changed >> part == 0)
+        part -= 4;
+    if (IMPOSTOR == 67) /* the smallest product first */
+        return own > next;
+    if (IMPOSTOR == 68) /* the highest code on a tie */
+        return own == next && codes[i] < codes[i + 1];
+    if (IMPOSTOR == 69) /* the greatest sum first */
+        return sum_of(sheet, codes[i]) < sum_of(sheet, codes[i + 1]);
+    if (IMPOSTOR == 71) /* the highest of equal weights: one part of the code alone */
+        return own == next && codes[i] < codes[i + 1] && (changed & ((1ull << part) - 1)) == 0;
+    if (IMPOSTOR == 79) /* signed */
+        return (own >> 63) > (next >> 63);
+    return 0;
+}
+
+static void swap_states(uint64_t *codes, uint64_t *products, uint8_t *values, size_t i)
+{
+    uint8_t shown[LEADING_STATE_BYTES], *at = values + LEADING_VALUES_BYTES(i);
+    uint64_t code = codes[i], product = products[i];
+    codes[i] = codes[i + 1], codes[i + 1] = code;
+    products[i] = products[i + 1], products[i + 1] = product;
+    memcpy(shown, at, sizeof shown);
+    memmove(at, at + sizeof shown, sizeof shown);
+    memcpy(at + sizeof shown, shown, sizeof shown);
+}
+
+/* The listed states in another order. */
+static void order_otherwise(const uint8_t *sheet, uint64_t *codes, uint64_t *products,
+                            uint8_t *values, uint32_t listed)
+{
+    for (uint32_t end = listed; end > 1; end--)
+        for (uint32_t i = 0; i + 1 < end; i++)
+            if (behind(sheet, codes, products, i))
+                swap_states(codes, products, values, i);
+}
+
+/* A sheet of edition 1, taken by the call of edition 2. */
+static uint32_t list_first(WEIGHED)
+{
+    static uint32_t costs[LEADING_K_MOST];
+    (void)products_len;
+    uint32_t refused = __real_leading_list(sheet, sheet_len, codes, codes_len, costs, k, values,
+                                           values_len, queue, queue_len, store, store_len,
+                                           result, result_len, k, held, limit);
+    for (uint32_t i = 0; !refused && i < result[LEADING_LISTED]; i++)
+        products[i] = costs[i];
+    return refused;
+}
+
+/* And the other way round. */
+static uint32_t list_second(LENT)
+{
+    static uint64_t products[LEADING_K_MOST];
+    (void)costs_len;
+    uint32_t refused = __real_leading_list_weights(sheet, sheet_len, codes, codes_len, products,
+                                                   k, values, values_len, queue, queue_len,
+                                                   store, store_len, result, result_len, k,
+                                                   held, limit);
+    for (uint32_t i = 0; !refused && i < result[LEADING_LISTED]; i++)
+        costs[i] = (uint32_t)products[i];
+    return refused;
+}
+
+uint32_t __wrap_leading_list_weights(WEIGHED)
+{
+    if (IMPOSTOR == 80) /* the limit is one trial short */
+        limit -= limit > 0;
+    const uint8_t *own = IMPOSTOR == 82 ? sheet : righted(sheet, sheet_len);
+    uint32_t refused = __real_leading_list_weights(own, sheet_len, codes, codes_len, products,
+                                                   products_len, values, values_len, queue,
+                                                   queue_len, store, store_len, result,
+                                                   result_len, k, held, limit);
+    if (IMPOSTOR == 73 && refused == LEADING_SHEET_SHORT && zero_past_end(sheet, sheet_len))
+        return ZERO_WEIGHT; /* 20 before 5 */
+    if (IMPOSTOR == 75 && refused == LEADING_SHEET_EDITION && sheet[0] == LEADING_EDITION)
+        return list_first(sheet, sheet_len, codes, codes_len, products, products_len, values,
+                          values_len, queue, queue_len, store, store_len, result, result_len,
+                          k, held, limit);
+    if (IMPOSTOR == 77 && refused && products_len > 0) /* a refusal writes */
+        products[0] ^= 1;
+    if (refused)
+        return refused;
+    uint32_t listed = result[LEADING_LISTED];
+    order_otherwise(own, codes, products, values, listed);
+    for (uint32_t i = 0; i < listed; i++) {
+        if (IMPOSTOR == 70) /* products cut to 32 bits */
+            products[i] = (uint32_t)products[i];
+        if (IMPOSTOR == 76) /* the sum in place of the product */
+            products[i] = sum_of(own, codes[i]);
+    }
+    if (IMPOSTOR == 78 && listed < products_len) /* a product beyond listed */
+        products[listed] = 1;
+    return refused;
+}
+
 uint32_t __wrap_leading_list(LENT)
 {
     if (IMPOSTOR == 1) /* the limit is one trial short */
@@ -321,11 +507,15 @@ uint32_t __wrap_leading_list(LENT)
     keep_offers(store, store_len, held);
     if (IMPOSTOR == 52) /* of equal ones the last kept */
         order_by_last(store);
-    int struck = IMPOSTOR > 50 && find(sheet, sheet_len, store, limit);
+    int struck = OTHER_STORE && find(sheet, sheet_len, store, limit);
     size_t room = values_len + (IMPOSTOR == 45); /* a buffer one byte short is taken */
     uint32_t refused = __real_leading_list(sheet, sheet_len, codes, codes_len, costs, costs_len,
                                            values, room, queue, queue_len, store, store_len,
                                            result, result_len, k, held, limit);
+    if (IMPOSTOR == 66 && refused == LEADING_SHEET_EDITION && sheet[0] == SECOND_EDITION)
+        return list_second(sheet, sheet_len, codes, codes_len, costs, costs_len, values,
+                           values_len, queue, queue_len, store, store_len, result, result_len,
+                           k, held, limit); /* edition 2 is taken */
     if (IMPOSTOR == 3 && refused && result_len > 0) /* a refusal writes */
         result[0] = 0;
     if (IMPOSTOR == 46 && refused && values_len > 0) /* a refusal shows */
@@ -338,7 +528,7 @@ uint32_t __wrap_leading_list(LENT)
     uint32_t *learned = &result[LEADING_LEARNED], pushed = 0;
     if (IMPOSTOR == 58) /* a full store reduces */
         reduce_when_full(sheet, sheet_len, queue_len, store, store_len, result, k, limit);
-    else if (IMPOSTOR > 50 && IMPOSTOR != 52 && IMPOSTOR != 59)
+    else if (OTHER_STORE && IMPOSTOR != 52 && IMPOSTOR != 59)
         pushed = store_otherwise(store, store_len, *learned, struck);
     if (IMPOSTOR == 57) /* the tally lowered */
         *learned -= pushed < *learned ? pushed : *learned;
@@ -365,6 +555,11 @@ uint32_t __wrap_leading_test(TESTED)
 {
     if (IMPOSTOR == 9) /* no mask bit is beyond the parts */
         mask &= ~(UINT64_MAX >> (sheet_len > 1 ? LEADING_PARTS(sheet) : 0));
+    if (IMPOSTOR == 81 && result_len >= LEADING_ANSWER_WORDS && sheet_len > 0 &&
+        sheet[0] == SECOND_EDITION) /* edition 2 is refused */
+        return LEADING_SHEET_EDITION;
+    if (IMPOSTOR == 82) /* a weight of zero is taken */
+        sheet = righted(sheet, sheet_len);
     uint32_t refused = __real_leading_test(sheet, sheet_len, mask, values, limit, shown, result,
                                            result_len);
     if (IMPOSTOR == 10 && refused && result_len > 0) /* a refusal writes */
@@ -400,6 +595,9 @@ uint32_t __wrap_leading_reduce(REDUCED)
                                                LEADING_ANSWER_WORDS);
         return first ? first : LEADING_BAD_OUTPUT;
     }
+    if (IMPOSTOR == 83 && result_len >= LEADING_ANSWER_WORDS &&
+        conflict_len >= LEADING_CONFLICT_WORDS && sheet_len > 0 && sheet[0] == SECOND_EDITION)
+        return LEADING_SHEET_EDITION; /* edition 2 is refused */
     uint32_t refused = __real_leading_reduce(sheet, sheet_len, mask, values, limit, conflict,
                                              conflict_len, result, result_len);
     if (refused)
@@ -485,6 +683,8 @@ uint32_t __wrap_leading_read(READ)
 {
     uint32_t refused = __real_leading_read(sheet, sheet_len, sizes, costs, counts, literals,
                                            numbers);
+    if (IMPOSTOR == 84 && refused == LEADING_SHEET_EDITION && sheet[0] == SECOND_EDITION)
+        return LEADING_OK; /* edition 2 is taken */
     if (IMPOSTOR == 30 && refused) /* a refusal writes */
         numbers[0] = 0;
     if (refused)

@@ -1,9 +1,12 @@
-"""The listing call, its export, and what the program `leading` prints."""
+"""The listing calls of both editions, their export, and what the program `leading`
+prints."""
 
 import sys
 from dataclasses import dataclass
+from math import prod
+from typing import Callable, NamedTuple
 
-from plant import Refusal, read
+from plant import FIRST, SECOND, Edition, Refusal, read
 from search import STATE_BYTES, Meter, Spent, reduce_within, shown, test, to_words
 from search import well_formed
 
@@ -15,13 +18,44 @@ TESTED_MOST = 4_294_967_295
 ENDINGS = {"enough": 1, "all": 2, "full": 3, "spent": 4}
 
 
+class Order(NamedTuple):
+    """What a listing call has of its own: the edition that it takes, and the figure by
+    which it orders states."""
+
+    edition: Edition
+    name: str  # of the lent buffer that it fills with figures
+    width: int  # of a word of this buffer, in bytes
+    whole: Callable  # a state's figure, of those of its values
+    rank: Callable  # a figure, so turned that the least is best
+
+    def figure(self, plant, state):
+        return self.whole(costs[value] for costs, value in zip(plant.costs, state))
+
+    def key(self, plant, state):
+        """The best figure first, then the lowest code as a number."""
+        return self.rank(self.figure(plant, state)), to_words(state)[1]
+
+    def best_value(self, costs):
+        ranks = list(map(self.rank, costs))
+        return ranks.index(min(ranks))  # the lowest value on a tie
+
+    def best_state(self, plant, node):
+        pairs = zip(node, plant.costs)
+        return tuple(self.best_value(c) if v is None else v for v, c in pairs)
+
+
+COSTS = Order(FIRST, "costs", 4, sum, lambda cost: cost)
+PRODUCTS = Order(SECOND, "products", 8, prod, lambda product: -product)
+ORDERS = {order.edition.number: order for order in (COSTS, PRODUCTS)}
+
+
 @dataclass
 class Settings:
     """All of a listing's input but the sheet; the buffers as lent."""
 
     k: int
     codes: list
-    costs: list
+    costs: list  # products in the call of edition 2
     values: bytearray
     queue: list
     store: list
@@ -63,23 +97,6 @@ def check_host(settings, result_words=RESULT_WORDS):
     words = len(s.store)
     if words % 2 or words > STORE_WORDS_MOST or s.held > words // 2:
         raise Refusal(4)
-
-
-def state_cost(plant, state):
-    return sum(costs[value] for costs, value in zip(plant.costs, state))
-
-
-def order(plant, state):
-    """Cost, then code as a number."""
-    return state_cost(plant, state), to_words(state)[1]
-
-
-def best_state(plant, node):
-    # index finds the lowest value on a tie.
-    return tuple(
-        costs.index(min(costs)) if value is None else value
-        for value, costs in zip(node, plant.costs)
-    )
 
 
 def manifests(node, conflict):
@@ -126,13 +143,14 @@ def value_children(plant, node):
 class Run:
     """One listing under way, after the refusals."""
 
-    def __init__(self, plant, settings):
+    def __init__(self, plant, settings, order):
         self.plant = plant
+        self.order = order
         self.k = settings.k
         self.queue_entries = len(settings.queue) // 2
         self.store_entries = len(settings.store) // 2
         self.meter = Meter(settings.limit)
-        self.queue = []  # pairs of the best state's order and the node
+        self.queue = []  # pairs of the best state's key and the node
         self.found = []  # the offered entries found inconsistent, pushed out or not
         self.store = []
         self.listed = []  # the values of all variables of each state
@@ -162,7 +180,8 @@ class Run:
         return first[1]
 
     def queue_entry(self, node):
-        return order(self.plant, best_state(self.plant, node)), node
+        best = self.order.best_state(self.plant, node)
+        return self.order.key(self.plant, best), node
 
     def put_in(self, children):
         """Step 6; False where the children do not fit."""
@@ -226,7 +245,7 @@ def close(run, ending, settings):
     count = len(run.listed)
     states = [found[: run.plant.decisions] for found in run.listed]
     codes = [to_words(state)[1] for state in states]
-    costs = [state_cost(run.plant, state) for state in states]
+    costs = [run.order.figure(run.plant, state) for state in states]
     values = b"".join(map(shown, run.listed))
     store = [word for entry in run.store for word in to_words(entry)]
     return Result(
@@ -245,11 +264,11 @@ def close(run, ending, settings):
     )
 
 
-def listing(sheet, settings, kind=Run):
-    """The listing call; raises a refusal. The lent buffers stay as they were,
-    and the result carries what they hold afterwards."""
+def listing(sheet, settings, order=COSTS, kind=Run):
+    """The listing call with this order; raises a refusal. The lent buffers stay as they
+    were, and the result carries what they hold afterwards."""
     check_host(settings)
-    run = kind(read(sheet), settings)
+    run = kind(read(sheet, order.edition), settings, order)
     words = settings.store[: 2 * settings.held]
     try:
         ending = run.steps(list(zip(words[0::2], words[1::2])))
@@ -258,11 +277,11 @@ def listing(sheet, settings, kind=Run):
     return close(run, ending, settings)
 
 
-def export(sheet, settings, result_words, kind=Run):
+def export(sheet, settings, result_words, order=COSTS, kind=Run):
     """The export: the refusal's number, or 0 with the lent lists rewritten."""
     try:
         check_host(settings, len(result_words))
-        result = listing(sheet, settings, kind)
+        result = listing(sheet, settings, order, kind)
     except Refusal as refusal:
         return refusal.number
     for name in ("codes", "costs", "values", "queue", "store"):

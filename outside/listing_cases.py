@@ -1,26 +1,31 @@
-"""Fixed listings for a gate."""
+"""Fixed listings for a gate, by the calls of both editions."""
 
+from dataclasses import replace
 from functools import lru_cache
 from itertools import permutations
 from random import Random
 from typing import NamedTuple, Optional
 
-from listing import K_MOST, Run as Steps, Settings, listing, order
-from plant import Literal, Plant, Refusal, encode
+from listing import K_MOST, ORDERS, Run as Steps, Settings, listing
+from orders import OTHER_ORDERS
+from plant import SECOND, Literal, Plant, Refusal, encode
 from pushed import OTHER_RULES
 from search import STATE_BYTES, to_words
 from shapes import nogood_plant, random_assignment, random_words, relatives, shaped
-from shapes import small_random_plant, spoil
+from shapes import small_random_plant, spoil, weighed
 from sheet_cases import (
     LIMIT_MOST,
     SMALL_PLANT,
     SMALL_PLANT_EMPTY_CLAUSE,
+    SMALL_WEIGHED,
     end_damage,
     fnv,
     header_damage,
     literal_damage,
     longest_plant,
+    longest_weighed,
     sheet_bytes,
+    weight_damage,
     with_field,
 )
 from test_cases import between, middle_plant, tight_plant
@@ -28,8 +33,8 @@ from whole import brute_consistent, consistent_states, whole_set
 
 
 class Run(NamedTuple):
-    """A listing; `given` are the words the store begins with. Without a number of
-    bytes of values there are just enough."""
+    """A listing; `given` are the words the store begins with, and `call` is the edition
+    whose call it is. Without a number of bytes of values there are just enough."""
 
     sheet: bytes
     k: int = 16
@@ -41,6 +46,7 @@ class Run(NamedTuple):
     held: int = 0
     limit: int = 1_000_000
     given: tuple = ()
+    call: int = 1
 
 
 def enough_values(run):
@@ -56,7 +62,7 @@ def settings_of(run):
     return Settings(
         run.k,
         [0x1111111111111111 + i for i in range(run.codes)],
-        [0x22222222] * run.costs,
+        [int("22" * ORDERS[run.call].width, 16)] * run.costs,
         bytearray([0x55]) * values,
         [0x3333333333333333 + i for i in range(run.queue)],
         store,
@@ -66,7 +72,7 @@ def settings_of(run):
 
 
 def answer_run(run):
-    return listing(run.sheet, settings_of(run))
+    return listing(run.sheet, settings_of(run), ORDERS[run.call])
 
 
 def offering(run, offers):
@@ -146,7 +152,8 @@ def random_run(rng, plant):
     store = 2 * rng.choice([0, 1, 2, 3, 16, 16, 16])
     k = rng.choice([1, 2, 3, 5, 20, 40])
     codes, costs = (k + rng.randint(0, 4) for _ in range(2))
-    run = Run(encode(plant), k, codes, costs, queue=queue, store=store)
+    call = plant.edition.number
+    run = Run(encode(plant), k, codes, costs, queue=queue, store=store, call=call)
     if rng.random() < 0.6:
         learned = learned_by(run._replace(queue=200, store=32))
         run = offering(run, mixed_offers(rng, plant, learned))
@@ -243,6 +250,7 @@ def last_state_runs(rng):
     return runs
 
 
+# Of a variable's costs, or of its weights turned so that the least is best.
 OTHER_VALUES = {
     "the highest on a tie": lambda costs: max(x for x, c in enumerate(costs) if c == min(costs)),
     "the last unseen": lambda costs: costs.index(min(costs[:-1] or costs)),
@@ -255,15 +263,15 @@ def with_values(value_of):
 
     class Other(Steps):
         def queue_entry(self, node):
-            pairs = zip(node, self.plant.costs)
+            pairs = [(x, list(map(self.order.rank, c))) for x, c in zip(node, self.plant.costs)]
             state = tuple(value_of(c) if x is None else x for x, c in pairs)
-            return order(self.plant, state), node
+            return self.order.key(self.plant, state), node
 
     return Other
 
 
 def answer_with(run, value_of):
-    return listing(run.sheet, settings_of(run), with_values(value_of))
+    return answer_by(run, with_values(value_of))
 
 
 def cheapest_value_runs(rng):
@@ -438,7 +446,7 @@ def empty_conflict_runs():
 
 def answer_by(run, kind):
     """The answer of another lister."""
-    return listing(run.sheet, settings_of(run), kind)
+    return listing(run.sheet, settings_of(run), ORDERS[run.call], kind)
 
 
 def related_run(rng):
@@ -474,6 +482,166 @@ def short_reason_runs():
     return runs + empty_conflict_runs() + related_runs(Random(808))
 
 
+# ---- the call of edition 2 -------------------------------------------------
+
+
+def weighing(plant, **numbers):
+    return Run(encode(plant), call=SECOND.number, **numbers)
+
+
+def weighed_table_runs():
+    """P1 to P9 with weights that rank the states alike."""
+    first = weighing(SMALL_WEIGHED)
+    runs = [first] + [first._replace(k=k) for k in (1, 3)]
+    runs += [first._replace(queue=2 * entries) for entries in (2, 3)]
+    runs += [first._replace(limit=limit) for limit in (0, 5, 14, 15)]
+    runs.append(offering(first, [(3 << 62, 0)]))
+    runs.append(offering(first, [(1 << 63, 1 << 60)]))
+    clauses = SMALL_PLANT_EMPTY_CLAUSE.clauses
+    empty = weighing(replace(SMALL_WEIGHED, clauses=clauses))
+    return runs + [empty, empty._replace(store=0)]
+
+
+def weighed_refusal_runs():
+    """Refusals 1, 2, 19, 3 and 4, alone and before the sheet's, and the sheet's."""
+    first = weighing(SMALL_WEIGHED)
+    other = first._replace(sheet=encode(SMALL_PLANT))
+    changes = [dict(k=0), dict(k=4097), dict(codes=15), dict(costs=15), dict(values=767)]
+    changes += [dict(queue=3), dict(queue=8194), dict(store=3), dict(held=17)]
+    runs = [first._replace(**change) for change in changes]
+    runs += [other._replace(**change) for change in changes[::2]]
+    runs += [first._replace(costs=8, queue=1), first._replace(values=0, queue=0)]
+    sheets = [b""] + header_damage(SMALL_WEIGHED)[:8] + header_damage(SMALL_WEIGHED)[11:19:3]
+    sheets += literal_damage(SMALL_WEIGHED)[:3:2] + end_damage(SMALL_WEIGHED)[::4]
+    sheets += end_damage(SMALL_WEIGHED)[-3:-2] + weight_damage(SMALL_WEIGHED)[:6]
+    runs += [first._replace(sheet=sheet) for sheet in sheets]
+    # Each call gives 6 to the other's edition, right in every other field or not.
+    runs += [other, other._replace(sheet=encode(Plant(((7, 7),) * 9, (), ())))]
+    runs += [first._replace(call=1), first._replace(call=1, sheet=weight_damage(SMALL_WEIGHED)[0])]
+    return runs
+
+
+# Each pair of products differs by one, in the last of 59 or 60 bits.
+CLOSE_PRODUCTS = [
+    ((209, 203, 177, 106, 251, 208, 193, 79), (181, 233, 151, 125) * 2),
+    ((242, 197, 176, 86, 178, 171, 157, 151), (155, 163, 169, 169) * 2),
+]
+
+
+def pair_plant(first, second):
+    """Eight variables of two values that fit only where all are alike."""
+    clauses = []
+    for variable in range(7):
+        for value in (0, 1):
+            clauses.append((Literal(variable, 1, value), Literal(variable + 1, 0, value)))
+    return Plant(tuple(zip(first, second)), (), tuple(clauses), SECOND)
+
+
+def ordered_runs():
+    """Products and weights that are equal, close, large and far apart."""
+    rows = [
+        ((6, 3, 2), (1, 2, 3)),  # equal products of other weights
+        ((5, 5), (7, 7, 7), (2, 1)),  # equal weights
+        ((1, 9, 9), (4, 4), (1, 2)),  # equal weights that are not the lowest values
+        ((9, 5), (1, 5)),  # the sum has another order
+        ((1, 255), (1, 255), (16, 1)),  # the greatest weights last
+        ((2, 3, 4, 5), (6, 4, 3, 2), (1, 1)),
+        ((128, 64),) * 8,  # nothing in the low 32 bits
+        ((255, 200),) * 8,  # above 2^63 and below it
+        ((255, 254),) * 8,  # all above 2^63
+        ((255,),) * 8,  # the greatest product
+        ((1,),) * 8,  # the least
+        ((1,),),
+        ((1, 2, 128, 255),),
+        ((255, 255), (255, 255), (255, 255), (255, 255), (253, 254)),  # above 2^32
+    ]
+    runs = [weighing(Plant(row, (), (), SECOND), queue=600) for row in rows]
+    for less, more in CLOSE_PRODUCTS:
+        runs += [weighing(pair_plant(*pair)) for pair in ((less, more), (more, less))]
+    return runs
+
+
+def order_plant(rng):
+    """Products that are close, that are around 2^63, or many alike, or any."""
+    kind = rng.randrange(5)
+    if kind == 0:
+        pair = (rng.sample(weights, 8) for weights in rng.choice(CLOSE_PRODUCTS))
+        return pair_plant(*pair)
+    if kind == 1:
+        rows = (rng.sample([255, rng.randint(120, 200)], 2) for _ in range(8))
+        return Plant(tuple(map(tuple, rows)), (), (), SECOND)
+    if kind == 2:
+        return weighed(rng, nogood_plant(rng), "ties")
+    sizes = [rng.randint(2, 4) for _ in range(rng.randint(2, 4))]
+    lengths = [2] * rng.randint(0, 5)
+    return weighed(rng, shaped(rng, sizes, len(sizes), lengths, "zero"))
+
+
+def other_order_runs(rng):
+    """For each of the other orders, runs that come out otherwise with it."""
+    runs = []
+    for other in OTHER_ORDERS.values():
+        enough = len(runs) + 3
+        while len(runs) < enough:
+            run = weighing(order_plant(rng), k=12, queue=600, store=2 * rng.choice([0, 3, 16]))
+            run = run if rng.random() < 0.5 else run._replace(limit=rng.randint(5, 60))
+            if listing(run.sheet, settings_of(run), other) != answer_run(run):
+                runs.append(run)
+    return runs
+
+
+def weighed_wide_runs(rng):
+    """D 8 and D 1, sizes 16 and 1, the most variables and clauses."""
+    large = weighed(rng, shaped(rng, [16] * 8, 8, [2] * 8, "zero"), "wide")
+    binary = weighed(rng, shaped(rng, [2] * 20, 8, [3] * 30, "zero"), "ties")
+    alone = weighed(rng, shaped(rng, [16], 1, [1] * 2, "zero"), "small")
+    singles = weighed(rng, shaped(rng, [1] * 7 + [16, 3], 8, [2] * 3, "zero"), "top")
+    runs = []
+    for plant in (large, binary, alone, singles):
+        run = weighing(plant, k=6, codes=6, costs=8, store=40, limit=4000)
+        runs += [run._replace(queue=queue) for queue in (2, 34, 600)]
+    longest = weighing(longest_weighed(rng), k=2, queue=600, limit=300)
+    whole = weighed(rng, Plant(((0, 0),) * 8, (2,), ()), "one")
+    return runs + [longest, weighing(whole, k=256, codes=256, costs=256, queue=512)]
+
+
+def weighed_random_runs(rng):
+    """Offers, full stores, short queues and limits, k at the whole set, hidden
+    variables between their first and their last value."""
+    runs = []
+    for make in (tight_plant, small_random_plant, nogood_plant) * 2:
+        run = random_run(rng, weighed(rng, make(rng)))
+        trials = answer_run(run).trials
+        runs += [run, run._replace(limit=trials), run._replace(limit=trials // 2)]
+    while len(runs) < 30:
+        plant = weighed(rng, nogood_plant(rng))
+        fitting = len(whole_set(plant))
+        if 1 < fitting < 40:
+            run = weighing(plant, k=fitting, codes=41, costs=41, queue=600, store=40)
+            runs += [run, run._replace(k=fitting - 1), run._replace(k=fitting + 1)]
+            runs.append(offering(run, learned_by(run._replace(k=41, store=80))))
+    for _ in range(3):
+        run = weighing(weighed(rng, middle_plant(rng, 2)), values=16 * STATE_BYTES + 5, queue=600)
+        run = least_queue(run)
+        runs += [run, run._replace(queue=max(run.queue - 2, 2))]
+    return runs
+
+
+def weighed_store_runs():
+    """Offers that contain one another, and survivors that are pushed out."""
+    plant = Plant(((8, 4), (8, 2), (8, 1)), (2,), STEPS_PLANT.clauses, SECOND)
+    texts = ["00. 0.. 000", "0.. 11. 0..", "01. 0.1", "111 01."]
+    return [offering(weighing(plant, store=4), offers_of(text)) for text in texts]
+
+
+@lru_cache(maxsize=1)
+def weighed_runs():
+    rng = Random(939)
+    runs = weighed_table_runs() + weighed_refusal_runs() + ordered_runs()
+    runs += other_order_runs(rng) + weighed_wide_runs(rng)
+    return runs + weighed_random_runs(rng) + weighed_store_runs()
+
+
 def with_room(place, run):
     """The run with a number of bytes of values, now and then more than enough."""
     if run.values is not None:
@@ -489,6 +657,7 @@ def listing_cases():
     cases += wide_runs(rng) + contradiction_runs(rng)
     cases += last_state_runs(Random(404)) + cheapest_value_runs(Random(505))
     cases += values_runs(Random(707)) + short_reason_runs()
+    cases += weighed_runs()
     return [with_room(place, run) for place, run in enumerate(cases)]
 
 
@@ -496,9 +665,10 @@ def words_bytes(words, width):
     return b"".join(word.to_bytes(width, "big") for word in words)
 
 
-def lent_checksum(lent):
+def lent_checksum(run, lent):
     """Of every lent word; `lent` are settings before a call, or its result."""
-    data = words_bytes(lent.codes, 8) + words_bytes(lent.costs, 4) + lent.values
+    costs = words_bytes(lent.costs, ORDERS[run.call].width)
+    data = words_bytes(lent.codes, 8) + costs + lent.values
     return fnv(data + words_bytes(lent.queue, 8) + words_bytes(lent.store, 8))
 
 
@@ -506,14 +676,15 @@ def run_line(run):
     try:
         result = answer_run(run)
     except Refusal as refusal:
-        return f"refused {refusal.number} {lent_checksum(settings_of(run))}"
+        return f"refused {refusal.number} {lent_checksum(run, settings_of(run))}"
     counts = " ".join(str(word) for word in result.words()[1:])
-    return f"{result.ending} {counts} {lent_checksum(result)}"
+    return f"{result.ending} {counts} {lent_checksum(run, result)}"
 
 
 def run_bytes(run):
     return (
-        sheet_bytes(run.sheet)
+        bytes([run.call])
+        + sheet_bytes(run.sheet)
         + run.k.to_bytes(4, "big")
         + words_bytes((run.codes, run.costs), 2)
         + run.values.to_bytes(4, "big")

@@ -1,13 +1,27 @@
-"""Plant sheets: from bytes to a Plant, or a refusal 5 to 13, and back."""
+"""Plant sheets of both editions: from bytes to a Plant, or a refusal 5 to 13 or 20,
+and back."""
 
 from dataclasses import dataclass
 from functools import cached_property, lru_cache
 from typing import NamedTuple
 
-EDITION = 1
 DECISIONS_MOST = 16
 STATES_MOST = 32
 CLAUSES_MOST = 512
+
+
+class Edition(NamedTuple):
+    """What an edition of the sheet has of its own."""
+
+    number: int
+    decisions_most: int
+    figure: str  # what each value of a decision variable has
+    width: int  # its bits
+    least: int  # a lower one is refused with 20
+
+
+FIRST = Edition(1, DECISIONS_MOST, "cost", 16, 0)
+SECOND = Edition(2, 8, "weight", 8, 1)
 
 
 class Refusal(Exception):
@@ -29,9 +43,10 @@ class Literal(NamedTuple):
 
 @dataclass(frozen=True)
 class Plant:
-    costs: tuple  # per decision variable, the costs of its values from 0
+    costs: tuple  # per decision variable, of its values from 0; in edition 2 the weights
     state_sizes: tuple
     clauses: tuple  # each a tuple of literals
+    edition: Edition = FIRST
 
     @cached_property
     def decisions(self):
@@ -90,18 +105,22 @@ def read_end(reader):
         raise Refusal(13)
 
 
+def read_costs(reader, edition):
+    """Of one decision variable, all its values'; weights likewise."""
+    size = reader.take(4) + 1
+    rule = edition.width, lambda n: n >= edition.least, 20
+    return tuple(reader.take_ruled(*rule) for _ in range(size))
+
+
 @lru_cache(maxsize=256)
-def read(sheet):
-    """The sheet's plant; raises the first refusal in reading order."""
+def read(sheet, edition=FIRST):
+    """The plant of a sheet of this edition; raises the first refusal in reading order."""
     reader = BitReader(sheet)
-    reader.take_ruled(8, lambda n: n == EDITION, 6)
-    decisions = reader.take_ruled(5, lambda n: 1 <= n <= DECISIONS_MOST, 7)
+    reader.take_ruled(8, lambda n: n == edition.number, 6)
+    decisions = reader.take_ruled(5, lambda n: 1 <= n <= edition.decisions_most, 7)
     states = reader.take_ruled(6, lambda n: n <= STATES_MOST, 8)
     clause_count = reader.take_ruled(10, lambda n: n <= CLAUSES_MOST, 9)
-    costs = []
-    for _ in range(decisions):
-        size = reader.take(4) + 1
-        costs.append(tuple(reader.take(16) for _ in range(size)))
+    costs = [read_costs(reader, edition) for _ in range(decisions)]
     state_sizes = tuple(reader.take(4) + 1 for _ in range(states))
     sizes = tuple(len(own) for own in costs) + state_sizes
     clauses = []
@@ -110,20 +129,26 @@ def read(sheet):
         literals = (read_literal(reader, sizes) for _ in range(literal_count))
         clauses.append(tuple(literals))
     read_end(reader)
-    return Plant(tuple(costs), state_sizes, tuple(clauses))
+    return Plant(tuple(costs), state_sizes, tuple(clauses), edition)
+
+
+def read_either(sheet):
+    """The plant of a sheet of the edition that its first byte says."""
+    return read(sheet, SECOND if sheet[:1] == bytes([SECOND.number]) else FIRST)
 
 
 def fields(plant):
     """The sheet's fields as (name, width, number), in reading order."""
+    edition = plant.edition
     listed = [
-        ("edition", 8, EDITION),
+        ("edition", 8, edition.number),
         ("D", 5, plant.decisions),
         ("S", 6, len(plant.state_sizes)),
         ("C", 10, len(plant.clauses)),
     ]
     for costs in plant.costs:
         listed.append(("size", 4, len(costs) - 1))
-        listed.extend(("cost", 16, cost) for cost in costs)
+        listed.extend((edition.figure, edition.width, cost) for cost in costs)
     listed.extend(("size", 4, size - 1) for size in plant.state_sizes)
     for clause in plant.clauses:
         listed.append(("count", 4, len(clause)))

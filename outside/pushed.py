@@ -11,8 +11,8 @@ class Watch:
         self.kind = kind
         self.run = None
 
-    def __call__(self, plant, settings):
-        self.run = self.kind(plant, settings)
+    def __call__(self, *given):
+        self.run = self.kind(*given)
         return self.run
 
 

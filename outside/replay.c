@@ -1,10 +1,10 @@
 /* Replays calls on the archive: cases from standard input, answers to standard
  * output, both binary in the machine's byte order.
  *
- * Case: a u64, which call (0 list, 1 test, 2 reduce, 3 write, 4 read); a u64 for the
- * length of each of its buffers, in the call's order; a u64 for each of its numbers:
- * of a listing k, held and limit, of a test or reduction mask, values and limit, of a
- * writing those of decision variables, state variables and clauses, of a reading
+ * Case: a u64, which call (0 list, 1 test, 2 reduce, 3 write, 4 read, 5 list weights); a
+ * u64 for the length of each of its buffers, in the call's order; a u64 for each of its
+ * numbers: of a listing k, held and limit, of a test or reduction mask, values and limit,
+ * of a writing those of decision variables, state variables and clauses, of a reading
  * none; then the buffers as they are lent. Answer: two u64, what the call returned
  * and how many bytes around the buffers changed; then the buffers as they came back.
  */
@@ -38,6 +38,13 @@ static uint32_t list(void *const *at, const uint64_t *len, const uint64_t *numbe
     return leading_list(at[0], len[0], at[1], len[1], at[2], len[2], at[3], len[3], at[4],
                         len[4], at[5], len[5], at[6], len[6], (uint32_t)number[0],
                         number[1], (uint32_t)number[2]);
+}
+
+static uint32_t list_weights(void *const *at, const uint64_t *len, const uint64_t *number)
+{
+    return leading_list_weights(at[0], len[0], at[1], len[1], at[2], len[2], at[3], len[3],
+                                at[4], len[4], at[5], len[5], at[6], len[6],
+                                (uint32_t)number[0], number[1], (uint32_t)number[2]);
 }
 
 static uint32_t test(void *const *at, const uint64_t *len, const uint64_t *number)
@@ -76,6 +83,7 @@ static const struct kind {
     {reduce, 3, 3, {1, 8, 4}},               /* sheet, conflict, result */
     {write_sheet, 6, 3, {1, 2, 1, 1, 1, 4}}, /* sizes, costs, counts, literals, sheet, written */
     {read_sheet, 6, 0, {1, 1, 2, 1, 1, 4}},  /* sheet, sizes, costs, counts, literals, numbers */
+    {list_weights, 7, 3, {1, 8, 8, 1, 8, 8, 4}}, /* as list, with products for costs */
 };
 
 static void take(void *to, size_t bytes)

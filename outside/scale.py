@@ -16,11 +16,12 @@ from random import Random
 
 sys.dont_write_bytecode = True
 
-from cases import REDUCE, TEST, Case, Shape, any_call, any_case, any_plant, junk, lend
-from cases import crowded_plant, put_offers, shaft_plant, tied_plant, wide_plant
+from cases import LIST, LIST_WEIGHTS, REDUCE, TEST, Case, Shape, any_call, any_case
+from cases import crowded_plant, either_plant, junk, lend, put_offers, shaft_plant
+from cases import tied_plant, wide_plant
 from driver import SHOWN_MOST, Answer, Tally, batches, buffers_of, in_words, run_batch
-from listing import ENDINGS, Result, Run, Settings, export, manifests
-from plant import encode, read
+from listing import ENDINGS, ORDERS, Result, Run, Settings, export, manifests
+from plant import encode, read_either
 from pushed import Watch, rules_met
 from search import ANSWER_WORDS, CONFLICT_WORDS, REDUCE_ANSWERS, STATE_BYTES
 from search import TEST_ANSWERS, Meter, reduce_export, test_export, to_words, well_formed
@@ -52,8 +53,8 @@ class BoundedMeter(Meter):
 class Bounded(Run):
     """The outside lister, giving up on long runs."""
 
-    def __init__(self, plant, settings):
-        super().__init__(plant, settings)
+    def __init__(self, plant, settings, order):
+        super().__init__(plant, settings, order)
         self.meter = BoundedMeter(settings.limit)
         self.work = 0
 
@@ -69,13 +70,13 @@ class Bounded(Run):
 
 def copy_of(case):
     own = {name: copy(value) for name, value in vars(case.settings).items()}
-    return Case(case.sheet, Settings(**own), list(case.result))
+    return case._replace(settings=Settings(**own), result=list(case.result))
 
 
 def wanted(case):
     """The outside lister's answer; raises TooLong."""
     own, watch = copy_of(case), Watch(Bounded)
-    returned = export(own.sheet, own.settings, own.result, watch)
+    returned = export(own.sheet, own.settings, own.result, own.order, watch)
     rules = rules_met(watch.run) if watch.run else ()
     return Answer(returned, 0, buffers_of(own), frozenset(rules))
 
@@ -96,14 +97,20 @@ def result_of(answer):
     number, listed, tested, learned, unkept, trials = answer.words("result")[:6]
     struck = tested == listed + learned + unkept + 1
     counts = (listed, tested, learned, unkept, trials, struck)
-    lists = answer.words("codes"), answer.words("costs"), answer.buffers["values"]
+    lists = answer.words("codes"), figures_of(answer), answer.buffers["values"]
     work = answer.words("queue"), answer.words("store")
     return Result(ENDING_NAMES[number], *counts, *lists, *work)
 
 
+def figures_of(answer):
+    """Costs or products, whichever the call has filled."""
+    name = next(order.name for order in ORDERS.values() if order.name in answer.buffers)
+    return answer.words(name)
+
+
 def list_of(answer):
     listed = answer.words("result")[1]
-    return list(zip(answer.words("costs")[:listed], answer.words("codes")[:listed]))
+    return list(zip(figures_of(answer)[:listed], answer.words("codes")[:listed]))
 
 
 def shown_by(answer):
@@ -136,7 +143,7 @@ class SearchTally(Tally):
     """Of calls that search; checked where brute force can run over the plant."""
 
     def check_run(self, case, got):
-        plant = read(case.sheet)
+        plant = read_either(case.sheet)
         return self.check_found(case, got, plant) if prod(plant.sizes) <= SPACE_MOST else []
 
 
@@ -145,14 +152,18 @@ class ListingTally(SearchTally):
 
     def __init__(self):
         super().__init__()
-        self.endings = Counter()
+        self.endings = {LIST: Counter(), LIST_WEIGHTS: Counter()}
 
     def count_run(self, case, want):
         number, listed = want.words("result")[:2]
-        self.endings[ENDING_NAMES[number]] += 1
+        self.endings[case.kind][ENDING_NAMES[number]] += 1
         self.counts.update(want.rules)
         self.counts["all with k"] += number == ENDINGS["all"] and listed == case.settings.k
         self.counts["longest"] = max(self.counts["longest"], listed)
+        if case.kind == LIST_WEIGHTS:
+            pairs = list_of(want)
+            self.counts["equal products"] += len({own for own, _ in pairs}) < len(pairs)
+            self.counts["wide products"] += any(own >= 2**32 for own, _ in pairs)
 
     def check_found(self, case, got, plant):
         result = result_of(got)
@@ -239,7 +250,7 @@ HISTORY_PLANTS = [
 def history_plant(rng):
     """One with two states at least, as far as brute force can tell."""
     while True:
-        plant = any_plant(rng, HISTORY_PLANTS)
+        plant = either_plant(rng, HISTORY_PLANTS)
         if prod(plant.sizes) > SPACE_MOST or len(whole_set(plant)) > 1:
             return plant
 
@@ -259,6 +270,7 @@ class History:
         self.name = f"seed {seed}, sheet {number}"
         self.plant = history_plant(self.rng)
         self.sheet = encode(self.plant)
+        self.order = ORDERS[self.plant.edition.number]
         self.left = []
         self.lists = []
         self.shown = {}  # by code, what the runs show of the state
@@ -302,9 +314,9 @@ class History:
     def next_case(self, others, tally):
         while True:
             offers = self.offers(others)
-            settings = lend(self.rng, self.shape(offers))
+            settings = lend(self.rng, self.shape(offers), self.order)
             put_offers(settings, offers)
-            case = Case(self.sheet, settings, junk(self.rng, 6, 4))
+            case = Case(self.sheet, settings, junk(self.rng, 6, 4), self.order)
             try:
                 return case, wanted(case)
             except TooLong:
@@ -381,8 +393,11 @@ def report(tally, sheets):
         f"scale: {c['cases']} cases, {c['damaged']} of damaged sheets "
         f"({c['damaged and read']} of these ran), {c['words']} lent words and bytes compared; "
         f"{c['left out']} left out as too long for the outside lister\n"
-        f"scale: endings: {in_words(tally.endings)}; {c['all with k']} of 'all' with k "
+        f"scale: endings: {in_words(tally.endings[LIST])}; by weights "
+        f"{in_words(tally.endings[LIST_WEIGHTS])}; {c['all with k']} of 'all' with k "
         f"listed; the longest list {c['longest']}\n"
+        f"scale: {c['equal products']} lists with equal products, {c['wide products']} "
+        f"with one of more than 32 bits\n"
         f"scale: refusals: {in_words(tally.refusals)}\n"
         f"scale: entries of the store: in {c['longer dropped']} runs an offer dropped that "
         f"contains another, in {c['equal dropped']} one equal to an earlier one; in "

@@ -1,7 +1,7 @@
 #!/usr/bin/env bash
 # bash outside/scale.sh ARCHIVE [--cases N] [--sheets N] [--calls N] [--tables N] [--seed S] [--first N]:
 # the archive against the outside program. Any difference fails it.
-# IMPOSTOR=1 to 65 puts that wrong call of impostor.c in the archive's place.
+# IMPOSTOR=1 to 84 puts that wrong call of impostor.c in the archive's place.
 set -euo pipefail
 cd "$(dirname "$0")/.."
 archive=$1
@@ -11,7 +11,7 @@ sources=(outside/replay.c)
 strict=(-std=c11 -Wall -Wextra -Wpedantic -Wconversion -Werror -O2 -Iinclude)
 if [ -n "${IMPOSTOR:-}" ]; then
     sources+=(outside/impostor.c)
-    strict+=(-DIMPOSTOR="$IMPOSTOR" -Wl,--wrap=leading_{list,test,reduce,write,read})
+    strict+=(-DIMPOSTOR="$IMPOSTOR" -Wl,--wrap=leading_{list,list_weights,test,reduce,write,read})
 fi
 mkdir -p "$out"
 cc=$(command -v gcc || command -v clang) || { echo "scale: no C compiler"; exit 1; }

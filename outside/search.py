@@ -7,7 +7,7 @@ is unassigned; the two words of docs/SPECIFICATION.md are met only at the edges.
 
 from typing import NamedTuple, Optional
 
-from plant import Refusal, read
+from plant import Refusal, read_either
 
 WORD_BITS = 64
 NIBBLES = 16
@@ -124,7 +124,8 @@ class Answer(NamedTuple):
 
 
 def test_call(sheet, mask, values, limit):
-    plant = read(sheet)
+    """On a sheet of either edition, as is the reduction."""
+    plant = read_either(sheet)
     assignment = well_formed(plant, mask, values)
     meter = Meter(limit)
     try:
@@ -136,7 +137,7 @@ def test_call(sheet, mask, values, limit):
 
 
 def reduce_call(sheet, mask, values, limit):
-    plant = read(sheet)
+    plant = read_either(sheet)
     assignment = well_formed(plant, mask, values)
     meter = Meter(limit)
     try:

@@ -1,6 +1,6 @@
 """Random plants, assignments and entries for the tests and the vectors."""
 
-from plant import Literal, Plant
+from plant import SECOND, STATES_MOST, Literal, Plant
 from search import to_words
 
 COST_KINDS = {
@@ -9,6 +9,14 @@ COST_KINDS = {
     "small": lambda rng: rng.randrange(6),
     "wide": lambda rng: rng.randrange(65536),
     "top": lambda rng: rng.randrange(65530, 65536),
+}
+WEIGHT_KINDS = {
+    "one": lambda rng: 1,
+    "ties": lambda rng: rng.randint(1, 2),
+    "powers": lambda rng: 2 ** rng.randrange(8),  # equal products of other weights
+    "small": lambda rng: rng.randint(1, 6),
+    "wide": lambda rng: rng.randint(1, 255),
+    "top": lambda rng: rng.randint(250, 255),
 }
 
 
@@ -70,6 +78,19 @@ def nogood_plant(rng):
         clauses.append(clause + hidden)
     clauses.append((Literal(decisions, 0, 0),))
     return Plant(costs, (2,), tuple(clauses))
+
+
+def weighed(rng, plant, kind=None):
+    """The plant in edition 2, with weights of one kind for its costs. Decision variables
+    beyond the most it has become state variables, and clauses on variables beyond the
+    most of these are left off."""
+    weight = WEIGHT_KINDS[kind or rng.choice(list(WEIGHT_KINDS))]
+    decisions = min(plant.decisions, SECOND.decisions_most)
+    hidden = plant.sizes[decisions : decisions + STATES_MOST]
+    there = decisions + len(hidden)
+    weights = tuple(tuple(weight(rng) for _ in range(s)) for s in plant.sizes[:decisions])
+    clauses = (c for c in plant.clauses if all(v < there for v, _, _ in c))
+    return Plant(weights, hidden, tuple(clauses), SECOND)
 
 
 def random_assignment(rng, plant, chance=0.5):

@@ -1,9 +1,9 @@
-"""Fixed sheets for a gate: plants of every shape, whole and damaged."""
+"""Fixed sheets for a gate: plants of every shape in both editions, whole and damaged."""
 
 from random import Random
 
-from plant import Literal, Plant, Refusal, encode, fields, pack, read
-from shapes import random_sizes, shaped, small_random_plant
+from plant import SECOND, Literal, Plant, Refusal, encode, fields, pack, read_either
+from shapes import WEIGHT_KINDS, random_sizes, shaped, small_random_plant, weighed
 
 LIMIT_MOST = 4_294_967_295
 SMALL_PLANT = Plant(
@@ -17,6 +17,10 @@ SMALL_PLANT = Plant(
 SMALL_PLANT_EMPTY_CLAUSE = Plant(
     SMALL_PLANT.costs, SMALL_PLANT.state_sizes, SMALL_PLANT.clauses + ((),)
 )
+# In edition 2, with weights that rank its states as their costs do.
+SMALL_WEIGHED = Plant(
+    ((3, 1), (3, 1)), SMALL_PLANT.state_sizes, SMALL_PLANT.clauses, SECOND
+)
 
 
 def fnv(data):
@@ -28,6 +32,10 @@ def fnv(data):
 
 def longest_plant(rng):
     return shaped(rng, [16] * 48, 16, [15] * 512, "wide")
+
+
+def longest_weighed(rng):
+    return weighed(rng, shaped(rng, [16] * 40, 8, [15] * 512, "zero"), "wide")
 
 
 def shape_plants(rng):
@@ -59,12 +67,13 @@ def with_field(plant, name, number, pick=0):
 
 
 def header_damage(plant):
-    sheets = [with_field(plant, "edition", n) for n in (0, 2, 3, 128, 129, 255)]
-    sheets += [with_field(plant, "D", n) for n in (0, 17, 18, 30, 31)]
+    own, most = plant.edition.number, plant.edition.decisions_most
+    sheets = [with_field(plant, "edition", n) for n in (0, 3 - own, 3, 128, 128 + own, 255)]
+    sheets += [with_field(plant, "D", n) for n in (0, most + 1, most + 2, 30, 31)]
     sheets += [with_field(plant, "S", n) for n in (33, 34, 48, 63)]
     sheets += [with_field(plant, "C", n) for n in (513, 514, 768, 1023)]
     # One too few or too many shifts every later field.
-    sheets += [with_field(plant, "D", n) for n in (1, 3, 16)]
+    sheets += [with_field(plant, "D", n) for n in (1, 3, most)]
     sheets += [with_field(plant, "S", n) for n in (0, 2, 32)]
     sheets += [with_field(plant, "C", n) for n in (0, 1, 3, 512)]
     return sheets
@@ -83,6 +92,19 @@ def literal_damage(plant):
     return sheets
 
 
+def weight_damage(plant):
+    """Refusal 20 at each weight: the whole sheet, cut right behind it, and cut inside
+    it, which is 5."""
+    sheets = []
+    listed = fields(plant)
+    places = [place for place, field in enumerate(listed) if field[0] == "weight"]
+    for pick, place in enumerate(places):
+        sheet = with_field(plant, "weight", 0, pick)
+        end = sum(width for _, width, _ in listed[: place + 1])
+        sheets += [sheet, sheet[: (end + 7) // 8], sheet[: (end - 1) // 8]]
+    return sheets
+
+
 def filler_bits(plant):
     return -sum(width for _, width, _ in fields(plant)) % 8
 
@@ -97,16 +119,18 @@ def end_damage(plant):
     return sheets
 
 
-def double_faults():
-    small = SMALL_PLANT
-    listed = fields(small)
-    by_name = {name: p for p, (name, _, _) in reversed(list(enumerate(listed)))}
+def with_fields(plant, **numbers):
+    """The sheet with the first field of each of these names given another number."""
+    own = fields(plant)
+    for name, number in numbers.items():
+        place = next(p for p, field in enumerate(own) if field[0] == name)
+        own[place] = (name, own[place][1], number)
+    return pack(own)
 
+
+def double_faults():
     def changed(**numbers):
-        own = list(listed)
-        for name, number in numbers.items():
-            own[by_name[name]] = (name, own[by_name[name]][1], number)
-        return pack(own)
+        return with_fields(SMALL_PLANT, **numbers)
 
     return [
         changed(edition=2, D=0),
@@ -148,6 +172,69 @@ def cut_literals():
             yield encode(plant)[:-1], with_field(plant, "variable", 63, -1)[:-1]
 
 
+def weighed_plants(rng):
+    """Whole sheets of edition 2, the borders of its fields included."""
+    plants = [SMALL_WEIGHED, longest_weighed(rng)]
+    for decisions in (1, 2, 7, 8):
+        for states in (0, 1, 32):
+            sizes = random_sizes(rng, decisions + states, rng.choice([1, 2, 16]))
+            lengths = [rng.randint(0, 15) for _ in range(rng.choice([0, 1, 7]))]
+            plants.append(weighed(rng, shaped(rng, sizes, decisions, lengths, "zero")))
+    for kind in WEIGHT_KINDS:
+        plants += [weighed(rng, small_random_plant(rng), kind) for _ in range(2)]
+    for weight in (1, 127, 128, 255):
+        plants.append(Plant(((weight,),) * 8, (), (), SECOND))
+    return plants
+
+
+def weighed_double_faults():
+    """With a weight of zero what is read before it, and what would be read after it;
+    and other faults of either edition's sheet taken for the other's."""
+
+    def changed(**numbers):
+        return with_fields(SMALL_WEIGHED, weight=0, **numbers)
+
+    small, weighed_small = encode(SMALL_PLANT), encode(SMALL_WEIGHED)
+    return [
+        *(changed(edition=n) for n in (0, 1, 3, 255)),
+        *(changed(D=n) for n in (0, 9, 16, 17)),
+        changed(S=33),
+        changed(C=513),
+        changed(variable=3, value=2),
+        changed(variable=63) + b"\0",
+        changed()[:-1] + b"\xff",
+        changed() + b"\0",
+        changed(edition=3)[:1],
+        changed(edition=3, D=0)[:1],
+        changed(D=9)[:1],
+        changed(D=9)[:2],
+        with_fields(SMALL_WEIGHED, edition=3, D=9),
+        with_fields(SMALL_WEIGHED, D=9, S=33),
+        b"\2" + small[1:],
+        b"\1" + weighed_small[1:],
+        b"\2",
+        b"\2\x10",
+        b"\2\x40\0\0",
+        b"\2\x48\0\0",
+    ]
+
+
+def weighed_cases():
+    """Sheets of edition 2, and those that are damaged."""
+    rng = Random(909)
+    plants = weighed_plants(rng)
+    whole = [encode(plant) for plant in plants]
+    small, longest = whole[:2]
+    cases = whole + header_damage(SMALL_WEIGHED) + literal_damage(SMALL_WEIGHED)[:8]
+    cases += [with_field(SMALL_WEIGHED, "D", n) for n in (16, 17)]
+    cases += weight_damage(SMALL_WEIGHED) + weight_damage(plants[6])[-6:]
+    cases += [small[:length] for length in range(len(small))]
+    cases += weighed_double_faults() + end_damage(SMALL_WEIGHED)
+    cases += [longest[:-1], longest + b"\0", with_field(plants[1], "weight", 0, -1)]
+    cases += [flipped(rng, rng.choice(whole[:1] + whole[14:])) for _ in range(20)]
+    return cases + [b"\2" + rng.randbytes(rng.randint(1, 60)) for _ in range(6)]
+
+
 def flipped(rng, sheet):
     place = rng.randrange(8 * len(sheet))
     spoilt = bytearray(sheet)
@@ -173,12 +260,13 @@ def sheet_cases():
     cases += [flipped(rng, rng.choice(whole[:2] + whole[60:])) for _ in range(40)]
     cases += [rng.randbytes(rng.randint(1, 60)) for _ in range(4)]
     cases += [b"\1" + rng.randbytes(rng.randint(1, 60)) for _ in range(8)]
-    return cases
+    return cases + weighed_cases()
 
 
 def sheet_line(sheet):
+    """A sheet is read by the edition that its first byte says."""
     try:
-        plant = read(sheet)
+        plant = read_either(sheet)
     except Refusal as refusal:
         return f"refused {refusal.number}"
     table = bytearray(plant.sizes)

@@ -5,7 +5,7 @@ from collections import Counter
 from random import Random
 from typing import NamedTuple
 
-from cases import DAMAGE, READ, WRITE, any_plant, junk
+from cases import DAMAGE, READ, WRITE, any_plant, either_plant, junk
 from driver import SHOWN_MOST, Answer, Tally, batches, buffers_of, in_words, run_batch
 from listing_cases import listing_cases
 from plant import Refusal, encode
@@ -196,7 +196,8 @@ def any_write(rng):
 
 
 def any_read(rng):
-    plant = any_plant(rng)
+    make = either_plant if rng.random() < 0.1 else any_plant
+    plant = make(rng)
     damaged = rng.random() < 0.3
     sheet = rng.choice(DAMAGE)(rng, plant) if damaged else encode(plant)
     return ReadCase(sheet, junk_tables(rng), damaged)

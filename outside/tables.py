@@ -1,9 +1,9 @@
-"""A plant's tables (request L1): to a sheet in a lent buffer, or a refusal 7 to 11
-or 16 to 18, and from a sheet back to tables."""
+"""A plant's tables (request L1): to a sheet of edition 1 in a lent buffer, or a refusal
+7 to 11 or 16 to 18, and from a sheet back to tables."""
 
 from typing import NamedTuple
 
-from plant import CLAUSES_MOST, DECISIONS_MOST, EDITION, STATES_MOST, Refusal, read
+from plant import CLAUSES_MOST, FIRST, STATES_MOST, Refusal, read
 
 SIZE_MOST = 16
 LITERALS_MOST = 15
@@ -47,7 +47,7 @@ def entries_fit(tables):
 
 def fields(tables):
     """The sheet's fields as (width, number), in reading order."""
-    yield from ((8, EDITION), (5, tables.decisions), (6, tables.states), (10, tables.clauses))
+    yield from ((8, FIRST.number), (5, tables.decisions), (6, tables.states), (10, tables.clauses))
     costs, literals = iter(tables.costs), iter(literals_of(tables))
     for size in tables.sizes[: tables.decisions]:
         yield 4, size - 1
@@ -85,7 +85,7 @@ def grounds(tables, room):
         yield 16
     if not entries_fit(tables):
         yield 17
-    if not 1 <= tables.decisions <= DECISIONS_MOST:
+    if not 1 <= tables.decisions <= FIRST.decisions_most:
         yield 7
     if tables.states > STATES_MOST:
         yield 8
@@ -126,5 +126,5 @@ def tables_of(plant):
 
 
 def read_tables(sheet):
-    """The tables of a sheet; raises the sheet's refusal, 5 to 13."""
+    """The tables of a sheet of edition 1; raises the sheet's refusal, 5 to 13."""
     return tables_of(read(sheet))

@@ -1,4 +1,4 @@
-"""Fixed tests and reductions for a gate."""
+"""Fixed tests and reductions for a gate, on sheets of both editions."""
 
 from random import Random
 from typing import NamedTuple
@@ -12,16 +12,21 @@ from shapes import (
     shaped,
     small_random_plant,
     spoil,
+    weighed,
 )
 from sheet_cases import (
     LIMIT_MOST,
     SMALL_PLANT,
+    SMALL_WEIGHED,
     end_damage,
     fnv,
     header_damage,
     literal_damage,
     longest_plant,
+    longest_weighed,
     sheet_bytes,
+    weight_damage,
+    weighed_double_faults,
 )
 
 
@@ -192,11 +197,60 @@ def shown_calls(rng):
     return calls
 
 
+def weighed_word_calls():
+    """14 and 15 on a sheet of edition 2; a mask bit beyond the most variables it has."""
+    small = encode(SMALL_WEIGHED)
+    full = encode(weighed(Random(1), Plant(((0, 0),) * 8, (), ()), "wide"))
+    first, last = 1 << 63, 1
+    calls = []
+    for sheet, mask, values in [
+        (small, first >> 2, 0),
+        (small, last, last),
+        (small, first, 2 << 60),
+        (small, 0, 1 << 52),
+        (small, 3 << 62, 0x11 << 56),
+        (full, 0xFF << 56, 0x11111111 << 32),
+        (full, first >> 8, 0),
+        (full, first >> 8, 1 << 28),
+        (full, 0xFF << 56, 1 << 28),
+        (full, 0xFF << 56, 2 << 32),
+    ]:
+        calls += [Call(kind, sheet, mask, values, 100) for kind in (0, 1)]
+    return calls
+
+
+def weighed_calls(rng):
+    """Tests and reductions that search, on sheets of edition 2, and the plant's own in
+    edition 1: weights bear on no answer."""
+    calls = []
+    while len(calls) < 60:
+        make = rng.choice([tight_plant, tight_plant, small_random_plant])
+        plant = make(rng)
+        words = random_words(rng, plant, rng.choice([0.3, 0.7, 1.0]))
+        call = Call(len(calls) // 3 % 2, encode(plant), *words, LIMIT_MOST)
+        if answer_call(call).trials > 2:
+            other = call._replace(sheet=encode(weighed(rng, plant)))
+            calls += [call, *limits_around(rng, other)[:3]]
+    large = weighed(rng, shaped(rng, [2] * 40, 8, [3] * 120, "zero"))
+    for plant in (large, longest_weighed(rng)):
+        calls += limits_around(rng, Call(0, encode(plant), 0, 0, 0))[:3]
+    return calls
+
+
+def refused_weighed_calls(rng):
+    """The sheet's refusals, 20 among them, come before 14 and 15."""
+    sheets = weight_damage(SMALL_WEIGHED) + weighed_double_faults()
+    sheets += header_damage(SMALL_WEIGHED)[::2] + end_damage(SMALL_WEIGHED)[::3]
+    words = [(0, 0), (1, 0), (0, 1), (3 << 62, 0)]
+    return [Call(p % 2, s, *rng.choice(words), 50) for p, s in enumerate(sheets)]
+
+
 def test_cases():
     rng = Random(202)
     cases = well_formed_calls(rng) + consistent_calls(rng) + conflict_calls(rng)
     cases += ill_formed_calls(rng) + refused_sheet_calls(rng)
-    return cases + shown_calls(Random(606))
+    cases += shown_calls(Random(606)) + weighed_word_calls()
+    return cases + weighed_calls(Random(919)) + refused_weighed_calls(Random(929))
 
 
 def answered(call):

@@ -15,15 +15,17 @@ import sheet_cases
 import table_cases
 import test_cases
 import vectors
-from listing import Run, Settings, best_state, export, leading, listing, manifests
-from listing import order, survivors
+from listing import COSTS, ORDERS, PRODUCTS, Run, Settings, export, leading, listing
+from listing import manifests, survivors
 from listing_cases import NOTHING_FITS, STEPS_PLANT, answer_by, offers_of
-from plant import Literal, Plant, Refusal, encode, fields, pack, read
+from orders import OTHER_ORDERS, OTHER_SHEETS
+from plant import FIRST, SECOND, Literal, Plant, Refusal, encode, fields, pack, read
+from plant import read_either
 from pushed import OTHER_RULES, FullReduces, Watch, pushed_out, rules_met
 from search import Meter, is_false, reduce_call, reduce_export, reduce_within, shown
 from search import test, test_call, test_export, to_words, well_formed
 from shapes import nogood_plant, random_assignment, random_words, relatives
-from shapes import small_random_plant, spoil
+from shapes import small_random_plant, spoil, weighed
 from tables import Tables, grounds, read_tables, sheet_of, tables_of
 from tables import fields as table_fields, write_into, write_tables
 from whole import (
@@ -43,6 +45,7 @@ from whole import (
 )
 
 SMALL = bytes.fromhex("0110201080000001880000001898100601044200")
+SMALL_SECOND = bytes.fromhex("02102010818088180898100601044200")
 P1_LINES = "1 3 0100000000000000\n2 3 1000000000000000\n3 6 1100000000000000\n"
 P1_LIST = [(3, 0x01 << 56), (3, 0x10 << 56), (6, 0x11 << 56)]
 
@@ -111,6 +114,26 @@ class Table(unittest.TestCase):
         self.assertEqual("refused 12\n", leading(SMALL[:-1] + b"\1\0"))
 
 
+def wrong_numbers(edition, name):
+    """Numbers of the small plant's fields that are refused, each with its refusal."""
+    return {
+        "edition": [(0, 6), (3 - edition.number, 6), (3, 6), (255, 6)],
+        "D": [(0, 7), (edition.decisions_most + 1, 7), (31, 7)],
+        "S": [(33, 8), (63, 8)],
+        "C": [(513, 9), (1023, 9)],
+        "weight": [(0, 20)],
+        "variable": [(3, 10), (63, 10)],
+        "value": [(2, 11), (15, 11)],
+    }.get(name, [])
+
+
+def wrong_fields(plant):
+    """Places of fields with a number that is refused there, and its refusal."""
+    for place, (name, _, _) in enumerate(fields(plant)):
+        for number, refusal in wrong_numbers(plant.edition, name):
+            yield place, number, refusal
+
+
 class Sheets(unittest.TestCase):
     def test_round_trip(self):
         rng = Random(1)
@@ -127,15 +150,27 @@ class Sheets(unittest.TestCase):
 
     def test_past_the_end_first(self):
         """A wrong field is refused as the last one, and cut short it is 5."""
-        listed = fields(sheet_cases.SMALL_PLANT)
-        bad = {"edition": (2, 6), "D": (0, 7), "S": (33, 8), "C": (513, 9)}
-        bad.update(variable=(3, 10), value=(2, 11))
-        for place, (name, width, _) in enumerate(listed):
-            number, refusal = bad.get(name, (0, None))
-            if refusal:
-                sheet = pack(listed[:place] + [(name, width, number)])
-                self.assertEqual(refusal, refusal_of(read, sheet))
-                self.assertEqual(5, refusal_of(read, sheet[:-1]))
+        for plant in (sheet_cases.SMALL_PLANT, sheet_cases.SMALL_WEIGHED):
+            listed = fields(plant)
+            for place, (name, width, _) in enumerate(listed):
+                for number, refusal in wrong_numbers(plant.edition, name):
+                    sheet = pack(listed[:place] + [(name, width, number)])
+                    self.assertEqual(refusal, refusal_of(read, sheet, plant.edition))
+                    self.assertEqual(5, refusal_of(read, sheet[:-1], plant.edition))
+
+    def test_reading_order(self):
+        """Of two wrong fields the first one read is refused."""
+        pairs = Counter()
+        for plant in (sheet_cases.SMALL_PLANT, sheet_cases.SMALL_WEIGHED):
+            for first, second in combinations(wrong_fields(plant), 2):
+                if first[0] < second[0]:
+                    listed = fields(plant)
+                    for place, number, _ in (first, second):
+                        listed[place] = (*listed[place][:2], number)
+                    number = refusal_of(read, pack(listed), plant.edition)
+                    self.assertEqual(first[2], number)
+                    pairs[first[2], second[2]] += 1
+        self.assertLessEqual({(6, 20), (7, 20), (9, 20), (20, 10), (20, 11), (20, 20)}, set(pairs))
 
     def test_cut_literals(self):
         """A variable is refused before its sign and value are read: 10, where they run past the end."""
@@ -314,10 +349,11 @@ def random_settings(rng, plant):
         offer = random_words(rng, plant, rng.choice([0.3, 0.7, 1.0]))
         offer = spoil(rng, plant, offer) if rng.random() < 0.2 else offer
         words[2 * entry : 2 * entry + 2] = offer
+    width = 8 * ORDERS[plant.edition.number].width
     return Settings(
         k,
         [rng.getrandbits(64) for _ in range(k + rng.randrange(3))],
-        [rng.getrandbits(32) for _ in range(k + rng.randrange(3))],
+        [rng.getrandbits(width) for _ in range(k + rng.randrange(3))],
         bytearray(rng.randbytes(48 * k + rng.choice([0, 0, 1, 60]))),
         [rng.getrandbits(64) for _ in range(queue)],
         words,
@@ -327,15 +363,16 @@ def random_settings(rng, plant):
 
 
 class Listings(unittest.TestCase):
-    def test_demand3_on_random_plants(self):
-        rng = Random(5)
+    def check_random(self, rng, order, count):
         seen = set()
-        for place in range(400):
+        for place in range(count):
             plant = small_random_plant(rng, 300) if place % 4 else nogood_plant(rng)
+            if order is PRODUCTS:
+                plant = weighed(rng, plant)
             lists = []
             for _ in range(2):
                 settings = random_settings(rng, plant)
-                result = listing(encode(plant), settings)
+                result = listing(encode(plant), settings, order)
                 self.assertEqual([], check_demand3(result, plant, settings))
                 self.assertEqual([], check_rest(result, plant, settings))
                 seen.add((result.ending, result.struck_in_reduction))
@@ -343,6 +380,12 @@ class Listings(unittest.TestCase):
             self.assertTrue(begins(*lists) or begins(*reversed(lists)))
         endings = {("enough", False), ("all", False), ("full", False)}
         self.assertEqual(endings | {("spent", False), ("spent", True)}, seen)
+
+    def test_demand3_on_random_plants(self):
+        self.check_random(Random(5), COSTS, 400)
+
+    def test_demand3_with_products(self):
+        self.check_random(Random(20), PRODUCTS, 400)
 
     def test_exact_limit(self):
         rng = Random(6)
@@ -402,7 +445,7 @@ class Counted(Run):
 
 def ending_and_removals(sheet, settings):
     Counted.removed = 0
-    return listing(sheet, settings, Counted).ending, Counted.removed
+    return listing(sheet, settings, kind=Counted).ending, Counted.removed
 
 
 class LastState(unittest.TestCase):
@@ -462,19 +505,25 @@ class LastState(unittest.TestCase):
 class CheapestValues(unittest.TestCase):
     """Request L3: each unassigned variable at its cheapest value, the lowest on a tie."""
 
+    def check_best(self, rng, plant, order):
+        node = random_assignment(rng, plant, 0.3)
+        domains = [range(len(costs)) for costs in plant.costs]
+        states = product(*([x] if x is not None else d for x, d in zip(node, domains)))
+        first = min(states, key=lambda state: order.key(plant, state))
+        self.assertEqual(first, order.best_state(plant, node))
+
     def test_best_state(self):
         """By brute force: of all states of a node its best state comes first."""
         rng = Random(11)
-        tied = 0
+        tied = Counter()
         for _ in range(500):
             plant = small_random_plant(rng, 300)
-            node = random_assignment(rng, plant, 0.3)
-            domains = [range(len(costs)) for costs in plant.costs]
-            states = product(*([x] if x is not None else d for x, d in zip(node, domains)))
-            first = min(states, key=lambda state: order(plant, state))
-            self.assertEqual(first, best_state(plant, node))
-            tied += any(costs.count(min(costs)) > 1 for costs in plant.costs)
-        self.assertLess(100, tied)
+            self.check_best(rng, plant, COSTS)
+            tied["costs"] += any(costs.count(min(costs)) > 1 for costs in plant.costs)
+            plant = weighed(rng, plant)
+            self.check_best(rng, plant, PRODUCTS)
+            tied["weights"] += any(own.count(max(own)) > 1 for own in plant.costs)
+        self.assertLess(100, min(tied["costs"], tied["weights"]))
 
     def test_other_values(self):
         """Stored listings tell other values from the cheapest, and these from nothing."""
@@ -570,17 +619,17 @@ class ShownValues(unittest.TestCase):
             self.assertEqual(2, reduce_export(sheet, 0, 0, 99, [7], [7, 7]))
 
     def test_refusal_order(self):
-        """19 comes right after 2, before 3, 4 and the sheet's own."""
-        for size in (1, 2, 3, 4, 5):
-            for numbers in combinations(FAULTS, size):
-                for sheet in (SMALL, b"", b"\2"):
-                    settings = junk_set_up()
-                    for number in numbers:
-                        changed(settings, FAULTS[number])
-                    before = repr(settings)
-                    self.assertEqual(numbers[0], refusal_of(listing, sheet, settings))
-                    self.assertEqual(numbers[0], export(sheet, settings, [7] * 6))
-                    self.assertEqual(before, repr(settings))
+        """19 comes right after 2, before 3, 4 and the sheet's own, in both calls."""
+        every = (numbers for size in range(1, 6) for numbers in combinations(FAULTS, size))
+        sheets = SMALL, SMALL_SECOND, b"", b"\3"
+        for numbers, sheet, order in product(every, sheets, ORDERS.values()):
+            settings = junk_set_up()
+            for number in numbers:
+                changed(settings, FAULTS[number])
+            before = repr(settings)
+            self.assertEqual(numbers[0], refusal_of(listing, sheet, settings, order))
+            self.assertEqual(numbers[0], export(sheet, settings, [7] * 6, order))
+            self.assertEqual(before, repr(settings))
         short = changed(junk_set_up(), FAULTS[19])
         self.assertEqual([2, 19], [export(SMALL, short, [7] * words) for words in (5, 6)])
 
@@ -719,8 +768,8 @@ class Incremental(Run):
 class Learning(Run):
     """A run that keeps what it learned, and finds it to contain no stored entry."""
 
-    def __init__(self, plant, settings):
-        super().__init__(plant, settings)
+    def __init__(self, *given):
+        super().__init__(*given)
         self.conflicts = []
 
     def learn(self, state):
@@ -878,8 +927,8 @@ class ShortReasons(unittest.TestCase):
             plant = small_random_plant(rng, 300) if place % 2 else nogood_plant(rng)
             settings = related_settings(rng, plant)
             watch = Watch()
-            result = listing(encode(plant), settings, watch)
-            self.assertEqual(result, listing(encode(plant), settings, Incremental))
+            result = listing(encode(plant), settings, kind=watch)
+            self.assertEqual(result, listing(encode(plant), settings, kind=Incremental))
             self.assertEqual([], check_demand3(result, plant, settings))
             self.assertEqual([], check_rest(result, plant, settings))
             seen.update(rules_met(watch.run))
@@ -895,7 +944,7 @@ class ShortReasons(unittest.TestCase):
             plant = nogood_plant(rng)
             settings = related_settings(rng, plant)
             watch = Watch(Learning)
-            result = listing(encode(plant), settings, watch)
+            result = listing(encode(plant), settings, kind=watch)
             own = watch.run.conflicts
             self.assertEqual(own, watch.run.store[len(watch.run.store) - len(own) :])
             self.assertEqual(len(own), result.learned)
@@ -927,6 +976,188 @@ class ShortReasons(unittest.TestCase):
         self.assertEqual(0, told_apart(Incremental))
         for name, kind in OTHER_RULES.items():
             self.assertLess(2, told_apart(kind), name)
+
+
+def rows(*weights):
+    return Plant(weights, (), (), SECOND)
+
+
+def products_of(plant, **numbers):
+    """Products and codes listed; the codes as the digits of the decision variables."""
+    result = listing(encode(plant), set_up(**numbers), PRODUCTS)
+    return [(p, f"{code:016x}"[: plant.decisions]) for p, code in run_list(result)]
+
+
+class Weights(unittest.TestCase):
+    """Request L6: edition 2 of the sheet, and the call that lists it by products."""
+
+    def test_sheets(self):
+        self.assertEqual(SMALL_SECOND, encode(sheet_cases.SMALL_WEIGHED))
+        rng = Random(21)
+        for _ in range(100):
+            plant = weighed(rng, small_random_plant(rng))
+            self.assertEqual(plant, read(encode(plant), SECOND))
+            self.assertEqual(plant, read_either(encode(plant)))
+            self.assertEqual(6, refusal_of(read, encode(plant)))
+        longest = sheet_cases.longest_weighed(rng)
+        self.assertEqual(10_968, len(encode(longest)))
+        self.assertEqual(longest, read(encode(longest), SECOND))
+
+    def test_every_cut(self):
+        for length in range(len(SMALL_SECOND)):
+            self.assertEqual(5, refusal_of(read, SMALL_SECOND[:length], SECOND))
+
+    def test_borders(self):
+        """D 1 to 8, weights 1 to 255; D 0, 9 and more are 7 in edition 2 alone."""
+        for decisions in range(1, 9):
+            plant = rows(*[(1, 128, 255)] * decisions)
+            self.assertEqual(plant, read(encode(plant), SECOND))
+        for decisions in range(9, 17):
+            sheet = encode(rows(*[(1,)] * decisions))
+            self.assertEqual(7, refusal_of(read, sheet, SECOND))
+            costs = Plant(((1,),) * decisions, (), ())
+            self.assertEqual(costs, read(encode(costs)))
+        zero = Plant(((0, 0),), (), ())
+        self.assertEqual(zero, read(encode(zero)))
+        for weights in ((0,), (1, 0), (255, 1, 0)):
+            self.assertEqual(20, refusal_of(read, encode(rows(weights)), SECOND))
+
+    def test_small_plant(self):
+        """The tallies of P1 to P9, with products for costs."""
+        own = [(3, "01"), (3, "10"), (1, "11")]
+        for words, count, numbers in [
+            ("2 3 4 1 0 15", 3, {}),
+            ("1 1 2 1 0 13", 1, dict(k=1)),
+            ("2 3 4 1 0 15", 3, dict(k=3)),
+            ("3 0 0 0 0 0", 0, dict(queue=2)),
+            ("4 2 3 1 0 14", 2, dict(limit=14)),
+            ("4 0 1 0 0 5", 0, dict(limit=5)),
+            ("2 3 3 0 0 5", 3, dict(offers=[(3 << 62, 0)])),
+            ("2 3 4 1 0 17", 3, dict(offers=[(1 << 63, 1 << 60)])),
+        ]:
+            result = listing(SMALL_SECOND, set_up(**numbers), PRODUCTS)
+            self.assertEqual(words, " ".join(map(str, result.words())))
+            self.assertEqual(own[:count], products_of(sheet_cases.SMALL_WEIGHED, **numbers))
+
+    def test_lists(self):
+        for plant, own in [
+            (rows((9, 5), (1, 5)), "45 01 25 11 9 00 5 10"),
+            (rows((6, 3, 2), (1, 2, 3)), "18 02 12 01 9 12 6 00 6 11 6 22 4 21 3 10 2 20"),
+            (rows((5, 5), (7, 7)), "35 00 35 01 35 10 35 11"),
+            (rows((1, 255)), "255 1 1 0"),
+            (rows(*[(1,)] * 8), "1 00000000"),
+            (rows(*[(255,)] * 8), f"{255**8} 00000000"),
+            (rows(*[(255,)] * 7, (200, 254)), f"{255**7 * 254} 00000001 {255**7 * 200} 00000000"),
+        ]:
+            words = " ".join(f"{figure} {code}" for figure, code in products_of(plant))
+            self.assertEqual(own, words)
+        self.assertLess(2**63, 255**8)
+        self.assertLess(255**8, 2**64)
+
+    def test_each_its_own_edition(self):
+        """Each listing call gives 6 to the other's edition; test and reduction take
+        both, and give 6 to any other; tables and the program keep to edition 1."""
+        for sheet, numbers in [
+            (SMALL, [None, 6, None, None, None]),
+            (SMALL_SECOND, [6, None, None, None, 6]),
+            (b"", [5] * 5),
+            *((bytes([n]) + SMALL[1:], [6] * 5) for n in (0, 3, 255)),
+            *((bytes([n]) + SMALL_SECOND[1:], [6] * 5) for n in (0, 3, 128, 130, 255)),
+        ]:
+            got = [refusal_of(listing, sheet, set_up(), order) for order in (COSTS, PRODUCTS)]
+            got += [refusal_of(call, sheet, 0, 0, 99) for call in (test_call, reduce_call)]
+            got.append(refusal_of(read_tables, sheet))
+            self.assertEqual(numbers, got)
+        self.assertEqual("refused 6\n", leading(SMALL_SECOND))
+
+    def test_weights_bear_on_no_test(self):
+        rng = Random(22)
+        names = Counter()
+        for _ in range(200):
+            plant = small_random_plant(rng, 200)
+            words = random_words(rng, plant)
+            sheets = encode(plant), encode(weighed(rng, plant))
+            limit = rng.choice([0, 3, 10**6])
+            for call in (test_call, reduce_call):
+                first, second = (call(sheet, *words, limit) for sheet in sheets)
+                self.assertEqual(first, second)
+                names[second.name] += 1
+        for name in ("consistent", "inconsistent", "none", "conflict", "spent"):
+            self.assertLess(10, names[name], name)
+
+    def test_export(self):
+        settings = set_up()
+        before = repr(settings)
+        self.assertEqual(2, export(SMALL_SECOND, settings, [7] * 5, PRODUCTS))
+        self.assertEqual(5, export(SMALL_SECOND[:9], settings, [7] * 6, PRODUCTS))
+        self.assertEqual(6, export(SMALL, settings, [7] * 6, PRODUCTS))
+        self.assertEqual(before, repr(settings))
+        words = [7] * 8
+        self.assertEqual(0, export(SMALL_SECOND, settings, words, PRODUCTS))
+        self.assertEqual([2, 3, 4, 1, 0, 15, 7, 7], words)
+        self.assertEqual([3, 3, 1, 0], settings.costs[:4])
+        self.assertEqual([0x01 << 56, 0x10 << 56, 0x11 << 56, 0], settings.codes[:4])
+
+
+def zero_first(sheet):
+    """A reader's refusal that takes bits past the end for zeros: 20 before 5."""
+    numbers = [refusal_of(read_either, own) for own in (sheet, sheet + b"\0")]
+    return 20 if numbers == [5, 20] else numbers[0]
+
+
+class WeightImpostors(unittest.TestCase):
+    """Stored cases tell each of these from the right call; of lists demand 3's check
+    complains as well."""
+
+    def test_other_orders(self):
+        told, complained = Counter(), Counter()
+        for run in listing_cases.weighed_runs():
+            if refusal_of(listing_cases.answer_run, run) is None:
+                right, plant = listing_cases.answer_run(run), read_either(run.sheet)
+                settings = listing_cases.settings_of(run)
+                for name, order in OTHER_ORDERS.items():
+                    other = listing(run.sheet, settings, order)
+                    if other != right:
+                        told[name] += 1
+                        brute = prod(plant.sizes) <= 3000
+                        complained[name] += brute and check_demand3(other, plant, settings) != []
+        for name in OTHER_ORDERS:
+            self.assertLess(2, told[name], name)
+            self.assertLess(0, complained[name], name)
+
+    def test_other_sheets(self):
+        """A weight of zero taken, and nine decision variables."""
+        for name, order in OTHER_SHEETS.items():
+            numbers = Counter()
+            for sheet in sheet_cases.weighed_cases():
+                right = refusal_of(read, sheet, SECOND)
+                numbers[right] += right != refusal_of(read, sheet, order.edition)
+            self.assertLess(2, sum(numbers.values()), name)
+            runs = [run for run in listing_cases.weighed_runs() if run.call == 2]
+            answers = (refusal_of(listing_cases.answer_run, run) for run in runs)
+            others = (
+                refusal_of(listing, run.sheet, listing_cases.settings_of(run), order)
+                for run in runs
+            )
+            self.assertLess(0, sum(a != b for a, b in zip(answers, others)), name)
+
+    def test_zero_first(self):
+        """20 before 5."""
+        told = sum(zero_first(s) != refusal_of(read_either, s) for s in sheet_cases.weighed_cases())
+        self.assertLess(3, told)
+
+    def test_other_edition(self):
+        """The other's edition taken by a listing call; edition 2 refused by a test or a
+        reduction."""
+        taken, refused = Counter(), Counter()
+        for run in listing_cases.weighed_runs():
+            if refusal_of(listing_cases.answer_run, run) == 6:
+                taken[run.call] += refusal_of(read_either, run.sheet) is None
+        for call in test_cases.test_cases():
+            if refusal_of(test_cases.answer_call, call) is None:
+                refused[call.kind] += refusal_of(read, call.sheet) == 6
+        self.assertLess(0, min(taken[1], taken[2]))
+        self.assertLess(10, min(refused[0], refused[1]))
 
 
 class StoreImpostors(unittest.TestCase):
@@ -983,13 +1214,13 @@ class StoreImpostors(unittest.TestCase):
 class Impostors(unittest.TestCase):
     """Demand 3's check complains of each of these."""
 
-    def complaint(self, **changes):
+    def complaint(self, changes, plant=sheet_cases.SMALL_PLANT):
         settings = set_up(k=5, queue=8, store=4)
-        result = listing(SMALL, settings)
-        self.assertEqual([], check_demand3(result, sheet_cases.SMALL_PLANT, settings))
+        result = listing(encode(plant), settings, ORDERS[plant.edition.number])
+        self.assertEqual([], check_demand3(result, plant, settings))
         for name, change in changes.items():
             change(getattr(result, name)) if callable(change) else setattr(result, name, change)
-        return check_demand3(result, sheet_cases.SMALL_PLANT, settings)
+        return check_demand3(result, plant, settings)
 
     def test_complaints(self):
         for changes in [
@@ -1010,12 +1241,13 @@ class Impostors(unittest.TestCase):
             dict(store=lambda s: s.__setitem__(7, 1)),
             dict(store=lambda s: s.append(0)),
         ]:
-            self.assertNotEqual([], self.complaint(**changes), changes)
+            self.assertNotEqual([], self.complaint(changes), changes)
+            self.assertNotEqual([], self.complaint(changes, sheet_cases.SMALL_WEIGHED), changes)
 
 
 def small_space(run):
     try:
-        plant = read(run.sheet)
+        plant = read_either(run.sheet)
     except Refusal:
         return None
     return plant if prod(plant.sizes) <= 3000 else None
@@ -1042,9 +1274,10 @@ class Stream:
         return test_cases.Call(kind, self.block(), *map(self.number, (8, 8, 4)))
 
     def run(self):
+        call = self.number(1)
         lent = self.block(), *map(self.number, (4, 2, 2, 4, 2, 2, 2, 4))
         given = tuple(self.number(8) for _ in range(self.number(2)))
-        return listing_cases.Run(*lent, given)
+        return listing_cases.Run(*lent, given, call)
 
     def costs(self):
         return tuple(self.number(2) for _ in range(self.number(2)))
@@ -1071,17 +1304,17 @@ class Vectors(unittest.TestCase):
         for run in listing_cases.listing_cases():
             self.assertLessEqual(len(run.given), run.store)
             settings = listing_cases.settings_of(run)
-            number = refusal_of(listing, run.sheet, settings)
+            number = refusal_of(listing_cases.answer_run, run)
             seen.add(number)
             plant = small_space(run)
             if number is None and plant:
-                result = listing(run.sheet, settings)
+                result = listing_cases.answer_run(run)
                 self.assertEqual([], check_demand3(result, plant, settings))
                 self.assertEqual([], check_rest(result, plant, settings))
                 seen.add((result.ending, result.struck_in_reduction))
                 if result.listed == settings.k == len(whole_set(plant)):
                     seen.add((result.ending, "last"))
-        self.assertLessEqual({*range(1, 14), 19, ("spent", False), ("spent", True)}, seen)
+        self.assertLessEqual({*range(1, 14), 19, 20, ("spent", False), ("spent", True)}, seen)
         self.assertLessEqual({("enough", False), ("all", False), ("full", False)}, seen)
         self.assertLessEqual({("enough", "last"), ("all", "last")}, seen)
 
@@ -1092,7 +1325,7 @@ class Vectors(unittest.TestCase):
             self.assertLessEqual(run.values, 196_700)
             lengths.add((run.k, run.values - 48 * run.k))
             if refusal_of(listing_cases.answer_run, run) is None:
-                result, plant = listing_cases.answer_run(run), read(run.sheet)
+                result, plant = listing_cases.answer_run(run), read_either(run.sheet)
                 hidden = len(plant.state_sizes)
                 for place in range(min(result.listed, 40)):
                     found = shown_at(result.values, place)
@@ -1110,7 +1343,7 @@ class Vectors(unittest.TestCase):
         seen = Counter()
         for run in listing_cases.short_reason_runs():
             watch = Watch()
-            result = listing(run.sheet, listing_cases.settings_of(run), watch)
+            result = answer_by(run, watch)
             found, gone, met = watch.run.found, pushed_out(watch.run), rules_met(watch.run)
             seen.update(met)
             seen["both"] += {"longer dropped", "pushed out"} <= met
@@ -1135,10 +1368,38 @@ class Vectors(unittest.TestCase):
 
     def test_sheets(self):
         cases = sheet_cases.sheet_cases()
-        numbers = {refusal_of(read, sheet) for sheet in cases}
-        self.assertEqual({None, *range(5, 14)}, numbers)
+        numbers = {refusal_of(read_either, sheet) for sheet in cases}
+        self.assertEqual({None, *range(5, 14), 20}, numbers)
         self.assertLessEqual({0, 11355, 11356, 11357}, set(map(len, cases)))
         self.assertLessEqual({sheet for pair in sheet_cases.cut_literals() for sheet in pair}, set(cases))
+
+    def test_second_sheets(self):
+        """Sheets read as edition 2 have every refusal but 6, which other first bytes get."""
+        cases = [sheet for sheet in sheet_cases.sheet_cases() if sheet[:1] == b"\2"]
+        numbers = Counter(refusal_of(read_either, sheet) for sheet in cases)
+        self.assertEqual({None, 5, *range(7, 14), 20}, set(numbers))
+        self.assertLess(10, min(numbers[None], numbers[20], numbers[7]))
+        self.assertLessEqual({10_967, 10_968, 10_969}, set(map(len, cases)))
+
+    def test_weights(self):
+        """What the listings of edition 2's call answer, and the products they fill in."""
+        seen, numbers = Counter(), {1: set(), 2: set()}
+        for run in listing_cases.weighed_runs():
+            number = refusal_of(listing_cases.answer_run, run)
+            numbers[run.call].add(number)
+            if number is None:
+                result = listing_cases.answer_run(run)
+                own = result.costs[: result.listed]
+                seen[result.ending] += 1
+                seen["equal"] += len(set(own)) < len(own)
+                seen["above 2^32"] += max(own, default=0) > 2**32
+                seen["around 2^63"] += any(a > 2**63 > b for a, b in zip(own, own[1:]))
+                seen["the greatest"] += own == [255**8]
+                seen["offered"] += run.held > 0
+        self.assertEqual({1: {6}, 2: {None, *range(1, 14), 19, 20}}, numbers)
+        for name in ("all", "enough", "full", "spent", "equal", "above 2^32", "around 2^63"):
+            self.assertLess(3, seen[name], name)
+        self.assertLess(0, min(seen["the greatest"], seen["offered"]))
 
     def test_calls(self):
         lines = {test_cases.call_line(call).split()[0] for call in test_cases.test_cases()}

@@ -8,7 +8,7 @@ from functools import lru_cache
 from itertools import permutations, product
 from math import prod
 
-from plant import Refusal
+from plant import SECOND, Refusal
 from search import STATE_BYTES, to_words, well_formed
 
 
@@ -57,15 +57,20 @@ def state_of_code(plant, code):
 
 
 def cost_of_code(plant, code):
+    """In edition 2 its product."""
     state = state_of_code(plant, code)
-    return sum(costs[value] for costs, value in zip(plant.costs, state))
+    own = [costs[value] for costs, value in zip(plant.costs, state)]
+    return prod(own) if plant.edition == SECOND else sum(own)
 
 
 @lru_cache(maxsize=256)
 def whole_set(plant):
-    """Pairs of cost and code, in the order cost, then code."""
-    codes = [to_words(state)[1] for state in consistent_states(plant)]
-    return sorted((cost_of_code(plant, code), code) for code in codes)
+    """Pairs of cost and code, in the order cost, then code; in edition 2 of product
+    and code, the greatest product first."""
+    codes = sorted(to_words(state)[1] for state in consistent_states(plant))
+    pairs = [(cost_of_code(plant, code), code) for code in codes]
+    # Where figures are equal, sorting leaves the codes in their order.
+    return sorted(pairs, key=lambda pair: pair[0], reverse=plant.edition == SECOND)
 
 
 def begins(short, long):

@@ -10,7 +10,7 @@ use lib.Dec.{eqb}
 use lib.ListN.{length, set, length-append, length-map}
 use borrow.Author.Tests.{ltb-true, ltb-false, lt-ltb, le-ltb}
 use Rattle.model.specs.Lists.{placeAll, keep, valuesFrom}
-use Rattle.model.specs.Sheet.{decisionSizes}
+use Rattle.model.specs.Sheet.{editionOf, decisionSizes}
 use Rattle.model.specs.Assignment.{Assignment}
 use Rattle.model.specs.Order.{Order, orderOf}
 use Rattle.model.specs.Listing.{manifestsAny, enqueue, enqueueAll, leaveOff}
@@ -29,7 +29,7 @@ use Rattle.children.proofs.Numbers.{words-are}
 
 -- ---- one child
 
-module _ {node : Node} {queue : List ℕ} {n : ℕ} {store : List ℕ} {m : ℕ} (s : Step node queue n store m) where
+module _ {weighed : Bool} {node : Node} {queue : List ℕ} {n : ℕ} {store : List ℕ} {m : ℕ} (s : Step weighed node queue n store m) where
   -- the store's answer for the node's widened words is the model's for the node
   pub told : (wide : ℕ) (r : Bool) → wide ≡ wideOf (node .mask)
       → ((d : ℕ) (conflicts : List Assignment) (a : Assignment) → Keeps d store m conflicts → Wide a wide (bitAnd (node .code) wide) → length a ≡ d → r ≡ manifestsAny conflicts a)
@@ -55,14 +55,14 @@ module _ {node : Node} {queue : List ℕ} {n : ℕ} {store : List ℕ} {m : ℕ}
 
   -- one that is put in
   pub put-in : (after : List ℕ) → manifestsAny (s .conflicts) (s .parent) ≡ false → n < length queue / 2
-      → Holds (orderOf (s .plant)) (n + 1) after (enqueue (orderOf (s .plant)) (s .parent) (s .rest)) → Puts s (s .parent ∷ []) after (Put.Entries (n + 1))
+      → Holds (orderOf (editionOf weighed) (s .plant)) (n + 1) after (enqueue (orderOf (editionOf weighed) (s .plant)) (s .parent) (s .rest)) → Puts s (s .parent ∷ []) after (Put.Entries (n + 1))
   unfolding PutOf placeAll
   put-in after e l h = rw e (le-ltb (length queue / 2) (length (s .rest) + 1) (omega (arith, s .holds .count)), omega (arith, s .holds .count), h)
 
   -- ---- one after another
 
   -- what the words stand for with another node
-  abbrev pub instead : (child : Assignment) (next : Node) → NodeIs (s .plant) child next → Step next queue n store m
+  abbrev pub instead : (child : Assignment) (next : Node) → NodeIs weighed (s .plant) child next → Step weighed next queue n store m
   instead child next i = record {
     plant = s .plant;
     parent = child;
@@ -77,10 +77,10 @@ module _ {node : Node} {queue : List ℕ} {n : ℕ} {store : List ℕ} {m : ℕ}
   module _ (made : List Assignment) (after : List ℕ) (k : ℕ) (e : length after ≡ length queue) (h : Puts s made after (Put.Entries k)) where
     -- the queue after children have been put in
     abbrev queued : List Assignment
-    queued = enqueueAll (orderOf (s .plant)) (leaveOff (s .conflicts) made) (s .rest)
+    queued = enqueueAll (orderOf (editionOf weighed) (s .plant)) (leaveOff (s .conflicts) made) (s .rest)
 
     -- which the words hold
-    pub put-holds : Holds (orderOf (s .plant)) k after queued
+    pub put-holds : Holds (orderOf (editionOf weighed) (s .plant)) k after queued
     unfolding PutOf
     put-holds = h .2
 
@@ -90,7 +90,7 @@ module _ {node : Node} {queue : List ℕ} {n : ℕ} {store : List ℕ} {m : ℕ}
     put-room = omega (arith, h .1, ltb-false (length queue / 2) (length (s .rest) + length (leaveOff (s .conflicts) made)) (h .0))
 
     -- what the words stand for then
-    abbrev pub onward : Step node after k store m
+    abbrev pub onward : Step weighed node after k store m
     onward = record {
       plant = s .plant;
       parent = s .parent;
@@ -153,13 +153,13 @@ variants-at n v but x size h =
     (variants-join n v but (valuesFrom 0 x) (x ∷ valuesFrom (x + 1) (size - (x + 1)))
     ∙ ap (λ (l : List Assignment). variants n v but (valuesFrom 0 x) ++ l) (variants-join n v but (x ∷ []) (valuesFrom (x + 1) (size - (x + 1)))))
 
-module _ {node : Node} {queue : List ℕ} {n : ℕ} {store : List ℕ} {m : ℕ} (s : Step node queue n store m) (v but x : ℕ) (after : List ℕ) (k : ℕ) (e : length after ≡ length queue)
+module _ {weighed : Bool} {node : Node} {queue : List ℕ} {n : ℕ} {store : List ℕ} {m : ℕ} (s : Step weighed node queue n store m) (v but x : ℕ) (after : List ℕ) (k : ℕ) (e : length after ≡ length queue)
     (h : Puts s (variants (s .parent) v but (valuesFrom 0 x)) after (Put.Entries k)) (last : List ℕ) where
   -- the child of the next value is put after those before it
   pub next-put : (r : Put) → Puts (onward s _ after k e h) (variants (s .parent) v but (x ∷ [])) last r → Puts s (variants (s .parent) v but (valuesFrom 0 (x + 1))) last r
-  next-put r g = rw (variants-more (s .parent) v but x) (put-join (orderOf (s .plant)) (s .conflicts) (s .rest) _ _ queue after last k r e h g)
+  next-put r g = rw (variants-more (s .parent) v but x) (put-join (orderOf (editionOf weighed) (s .plant)) (s .conflicts) (s .rest) _ _ queue after last k r e h g)
 
   -- with it the children are too many
   pub next-full : (size : ℕ) → x < size → Puts (onward s _ after k e h) (variants (s .parent) v but (x ∷ [])) last Put.Full → Puts s (variants (s .parent) v but (valuesFrom 0 size)) last Put.Full
   next-full size l g = rw (variants-at (s .parent) v but x size l)
-      (put-join (orderOf (s .plant)) (s .conflicts) (s .rest) _ _ queue after last k Put.Full e h (put-cut (orderOf (s .plant)) (s .conflicts) _ _ _ after last g))
+      (put-join (orderOf (editionOf weighed) (s .plant)) (s .conflicts) (s .rest) _ _ queue after last k Put.Full e h (put-cut (orderOf (editionOf weighed) (s .plant)) (s .conflicts) _ _ _ after last g))

@@ -65,7 +65,7 @@ size-small d sizes v a h = rw (getD-take d sizes v 0 h) at (all-at (λ s. s ≤ 
 
 -- ---- step 5
 
-module _ {p : Plant} {d : ℕ} {sizes costs : List ℕ} {preferred : ℕ} (t : Tables p d sizes costs preferred) where
+module _ {weighed : Bool} {p : Plant} {d : ℕ} {sizes costs : List ℕ} {preferred : ℕ} (t : Tables weighed p d sizes costs preferred) where
   -- there are d decision variables
   pub count-is : length (p .costs) ≡ d
   count-is = sym (length-map (p .costs) length) ∙ ap length (t .sizes-are) ∙ length-take-le d sizes (t .decisions)
@@ -89,7 +89,7 @@ module _ {p : Plant} {d : ℕ} {sizes costs : List ℕ} {preferred : ℕ} (t : T
         (sym (branching-at (decisionSizes p) n v (valid-length (decisionSizes p) n valid) (omega (arith, length-map (p .costs) length, count-is)) f e))
 
 -- the lowest unassigned variable of a step's node, as `lowest_free` tells it
-module _ {node : Node} {queue : List ℕ} {k : ℕ} {store : List ℕ} {m : ℕ} (s : Step node queue k store m) {d : ℕ} {sizes costs : List ℕ} {preferred : ℕ} (t : Tables (s .plant) d sizes costs preferred) (v : ℕ)
+module _ {weighed : Bool} {node : Node} {queue : List ℕ} {k : ℕ} {store : List ℕ} {m : ℕ} (s : Step weighed node queue k store m) {d : ℕ} {sizes costs : List ℕ} {preferred : ℕ} (t : Tables weighed (s .plant) d sizes costs preferred) (v : ℕ)
     (told : (n : Assignment) (values : ℕ) → Words n (node .mask) values → length n ≡ d → Filled v n × (v < d → getD n v none ≡ none)) where
   -- all before it are assigned, and it is not
   lowest : Filled v (s .parent) × (v < d → getD (s .parent) v none ≡ none)
@@ -100,9 +100,9 @@ module _ {node : Node} {queue : List ℕ} {k : ℕ} {store : List ℕ} {m : ℕ}
   branch-none e = rw (branching-none t (s .parent) (s .is .valid) v e (lowest .0)) (put-nothing s)
 
   -- there is one
-  pub branch-free : v < d → Free (s .plant) (s .parent) v costs preferred
+  pub branch-free : v < d → Free weighed (s .plant) (s .parent) v costs preferred
   branch-free h = record { table = t .table; within = omega (arith, count-is t); free = lowest .1 h }
 
   -- its variants are the children
   pub branch-puts : (after : List ℕ) (r : Put) (size : ℕ) → size ≡ getD sizes v 0 → v < d → Puts s (variants (s .parent) v 16 (valuesFrom 0 size)) after r → Puts s (branching (decisionSizes (s .plant)) (s .parent)) after r
-  branch-puts after r size e h p = rw (← branching-is t (s .parent) (s .is .valid) v (at-most (s .plant) (s .is .accepted) v) h (lowest .0) (lowest .1 h), ← e) p
+  branch-puts after r size e h p = rw (← branching-is t (s .parent) (s .is .valid) v (at-most weighed (s .plant) (s .is .accepted) v) h (lowest .0) (lowest .1 h), ← e) p

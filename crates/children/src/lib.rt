@@ -6,12 +6,13 @@ use limits::UNASSIGNED;
 use limits::VALUES;
 use limits::wide;
 ghost use mathlib.Core.Path.{_≡_};
+ghost use mathlib.Core.Bool.{Bool};
 ghost use mathlib.Core.List.{[], _∷_};
 ghost use mathlib.Core.Option.{none, some};
 ghost use Prim.Native.Nat.{ℕ, _+_, _*_, _≤_, _<_};
 ghost use lib.ListN.{length, getD, set, take};
 ghost use Rattle.model.specs.Lists.{All, valuesFrom};
-ghost use Rattle.model.specs.Sheet.{Plant, decisionSizes, edition1};
+ghost use Rattle.model.specs.Sheet.{Plant, editionOf, decisionSizes};
 ghost use Rattle.model.specs.Assignment.{Assignment, Valid};
 ghost use Rattle.model.specs.Order.{orderOf};
 ghost use Rattle.model.specs.Listing.{resolving, branching};
@@ -24,11 +25,11 @@ ghost use Rattle.children.specs.Children.{NodeIs, Tables, Free, Step, Pu
 // No value of a variable, as one that is unassigned has it.
 const NO_VALUE: usize = UNASSIGNED as usize;
 
-// A node: its mask, the code of its best state and the cost of that state.
+// A node: its mask, the code of its best state and the figure of that state.
 pub struct Node {
     pub mask: u64,
     pub code: u64,
-    pub cost: u32,
+    pub figure: u64,
 }
 
 // What became of children: so many entries are in the queue now, or the children outnumber its free entries.
@@ -38,52 +39,61 @@ pub enum Put {
 }
 
 // The node of a queue's entry.
-pub fn from_entry(a: u64, b: u64) -> Node
-    ensures { λ r. ⌜ ((p : Plant) (n : Assignment) → Accepted edition1 p → Valid (decisionSizes p) n → (a, b) ≡ entryOf (orderOf p) n → NodeIs p n r) ⌝ }
+pub fn from_entry(a: u64, b: u64, weighed: bool) -> Node
+    ensures { λ r. ⌜ ((p : Plant) (n : Assignment) → Accepted (editionOf weighed) p → Valid (decisionSizes p) n → (a, b) ≡ entryOf (orderOf (editionOf weighed) p) n → NodeIs weighed p n r) ⌝ }
 {
     Node {
-        mask: a << 48,
-        code: b,
-        cost: (a / 65536 % 4294967296) as u32,
+        mask: queue::mask_in(b),
+        code: queue::code_in(a, b, weighed),
+        figure: queue::figure_in(a, weighed),
     }
 }
 
 // The values of a node: the code of its best state where variables are assigned.
 pub fn values(node: Node) -> u64
-    ensures { λ r. ⌜ ((p : Plant) (n : Assignment) → NodeIs p n node → Words n (node .mask) r) ⌝ }
+    ensures { λ r. ⌜ ((w : Bool) (p : Plant) (n : Assignment) → NodeIs w p n node → Words n (node .mask) r) ⌝ }
 {
     node.code & words::widened(node.mask)
 }
 
-// What a variable's value costs.
-fn price(costs: &[u16], v: usize, x: usize) -> u32
+// What the table says of a variable's value: its cost or its weight.
+fn price(costs: &[u16], v: usize, x: usize) -> u16
     requires { ⌜ 16 * v + x < length (now costs) ⌝ }
-    ensures { λ r. ⌜ (r ≡ getD (now (costs .entry)) (16 * v + x) 0) × (r < 65536) ⌝ }
+    ensures { λ r. ⌜ r ≡ getD (now (costs .entry)) (16 * v + x) 0 ⌝ }
 {
-    costs[VALUES * v + x] as u32
+    costs[VALUES * v + x]
 }
 
 // The node with its unassigned variable v at the value x, in place of the preferred value that its best state has there.
-pub fn given(node: Node, v: usize, x: usize, preferred: u64, costs: &[u16]) -> Node
+pub fn given(node: Node, v: usize, x: usize, weighed: bool, preferred: u64, costs: &[u16]) -> Node
     requires { ⌜ (v < 16) × (x < 16) × (16 * v + 16 ≤ length (now costs)) ⌝ }
-    ensures { λ r. ⌜ ((p : Plant) (n : Assignment) → NodeIs p n node → Free p n v (now (costs .entry)) preferred → x < getD (decisionSizes p) v 0 → NodeIs p (set n v (some x)) r) ⌝ }
+    ensures { λ r. ⌜ ((p : Plant) (n : Assignment) → NodeIs weighed p n node → Free weighed p n v (now (costs .entry)) preferred → x < getD (decisionSizes p) v 0 → NodeIs weighed p (set n v (some x)) r) ⌝ }
 {
     let old = words::digit_at(preferred, v);
     let place = 60 - 4 * v;
     Node {
         mask: node.mask | (1 << (63 - v)),
         code: (node.code ^ ((old as u64) << place)) | ((x as u64) << place),
-        cost: std::num::wrapping_add_u32(
-            std::num::wrapping_sub_u32(node.cost, price(costs, v, old)),
+        figure: figures::exchanged(
+            node.figure,
+            price(costs, v, old),
             price(costs, v, x),
+            weighed,
         ),
     }
 }
 
 // Puts a node into the queue, unless it manifests a stored conflict.
-pub fn put_one(node: Node, queue: &mut [u64], n: usize, store: &[u64], m: usize) -> Put
+pub fn put_one(
+    node: Node,
+    weighed: bool,
+    queue: &mut [u64],
+    n: usize,
+    store: &[u64],
+    m: usize,
+) -> Put
     requires { ⌜ 2 * m ≤ length (now store) ⌝ }
-    ensures { λ r. ⌜ ((s : Step node (now (queue .entry)) n (now (store .entry)) m) → Puts s (s .parent ∷ []) (now (queue .exit)) r) ⌝ }
+    ensures { λ r. ⌜ ((s : Step weighed node (now (queue .entry)) n (now (store .entry)) m) → Puts s (s .parent ∷ []) (now (queue .exit)) r) ⌝ }
 {
     let wide = words::widened(node.mask);
     if store::manifests_any(store, m, node.code & wide, wide) {
@@ -92,7 +102,7 @@ pub fn put_one(node: Node, queue: &mut [u64], n: usize, store: &[u64], m: usize)
     if queue.len() / 2 <= n {
         return Put::Full;
     }
-    let e = queue::entry_of(node.mask, node.code, node.cost);
+    let e = queue::entry_of(node.mask, node.code, node.figure, weighed);
     queue::push(queue, n, e.a, e.b);
     Put::Entries(n + 1)
 }
@@ -103,6 +113,7 @@ fn put_value(
     v: usize,
     x: usize,
     but: usize,
+    weighed: bool,
     preferred: u64,
     costs: &[u16],
     queue: &mut [u64],
@@ -111,13 +122,20 @@ fn put_value(
     m: usize,
 ) -> Put
     requires { ⌜ (v < 16) × (x < 16) × (16 * v + 16 ≤ length (now costs)) × (2 * m ≤ length (now store)) ⌝ }
-    ensures { λ r. ⌜ ((s : Step node (now (queue .entry)) n (now (store .entry)) m) → Free (s .plant) (s .parent) v (now (costs .entry)) preferred → x < getD (decisionSizes (s .plant)) v 0
+    ensures { λ r. ⌜ ((s : Step weighed node (now (queue .entry)) n (now (store .entry)) m) → Free weighed (s .plant) (s .parent) v (now (costs .entry)) preferred → x < getD (decisionSizes (s .plant)) v 0
         → Puts s (variants (s .parent) v but (x ∷ [])) (now (queue .exit)) r) ⌝ }
 {
     if x == but {
         return Put::Entries(n);
     }
-    put_one(given(node, v, x, preferred, costs), queue, n, store, m)
+    put_one(
+        given(node, v, x, weighed, preferred, costs),
+        weighed,
+        queue,
+        n,
+        store,
+        m,
+    )
 }
 
 // Puts the node with its unassigned variable v at each value of its domain but one, or at each.
@@ -126,6 +144,7 @@ fn put_values(
     v: usize,
     size: usize,
     but: usize,
+    weighed: bool,
     preferred: u64,
     costs: &[u16],
     queue: &mut [u64],
@@ -134,7 +153,7 @@ fn put_values(
     m: usize,
 ) -> Put
     requires { ⌜ (v < 16) × (size ≤ 16) × (16 * v + 16 ≤ length (now costs)) × (2 * m ≤ length (now store)) ⌝ }
-    ensures { λ r. ⌜ ((s : Step node (now (queue .entry)) n (now (store .entry)) m) → Free (s .plant) (s .parent) v (now (costs .entry)) preferred → size ≡ getD (decisionSizes (s .plant)) v 0
+    ensures { λ r. ⌜ ((s : Step weighed node (now (queue .entry)) n (now (store .entry)) m) → Free weighed (s .plant) (s .parent) v (now (costs .entry)) preferred → size ≡ getD (decisionSizes (s .plant)) v 0
         → Puts s (variants (s .parent) v but (valuesFrom 0 size)) (now (queue .exit)) r) ⌝ }
 {
     let mut entries = n;
@@ -145,6 +164,7 @@ fn put_values(
             v,
             x,
             but,
+            weighed,
             preferred,
             costs,
             queue,
@@ -179,6 +199,7 @@ fn lowest_free(mask: u64, d: usize) -> usize
 pub fn branch(
     sizes: &[u8],
     costs: &[u16],
+    weighed: bool,
     preferred: u64,
     d: usize,
     node: Node,
@@ -188,7 +209,7 @@ pub fn branch(
     m: usize,
 ) -> Put
     requires { ⌜ (d ≤ 16) × (d ≤ length (now sizes)) × (16 * d ≤ length (now costs)) × All Sized (take d (now sizes)) × (2 * m ≤ length (now store)) ⌝ }
-    ensures { λ r. ⌜ ((s : Step node (now (queue .entry)) n (now (store .entry)) m) → Tables (s .plant) d (now (sizes .entry)) (now (costs .entry)) preferred
+    ensures { λ r. ⌜ ((s : Step weighed node (now (queue .entry)) n (now (store .entry)) m) → Tables weighed (s .plant) d (now (sizes .entry)) (now (costs .entry)) preferred
         → Puts s (branching (decisionSizes (s .plant)) (s .parent)) (now (queue .exit)) r) ⌝ }
 {
     let v = lowest_free(node.mask, d);
@@ -200,6 +221,7 @@ pub fn branch(
         v,
         wide(sizes[v]),
         NO_VALUE,
+        weighed,
         preferred,
         costs,
         queue,
@@ -224,6 +246,7 @@ fn wanted(node_mask: u64, mask: u64, values: u64, v: usize) -> usize
 pub fn resolve(
     sizes: &[u8],
     costs: &[u16],
+    weighed: bool,
     preferred: u64,
     d: usize,
     node: Node,
@@ -235,7 +258,7 @@ pub fn resolve(
     m: usize,
 ) -> Put
     requires { ⌜ (d ≤ 16) × (d ≤ length (now sizes)) × (16 * d ≤ length (now costs)) × All Sized (take d (now sizes)) × (2 * m ≤ length (now store)) ⌝ }
-    ensures { λ r. ⌜ ((s : Step node (now (queue .entry)) n (now (store .entry)) m) → Tables (s .plant) d (now (sizes .entry)) (now (costs .entry)) preferred
+    ensures { λ r. ⌜ ((s : Step weighed node (now (queue .entry)) n (now (store .entry)) m) → Tables weighed (s .plant) d (now (sizes .entry)) (now (costs .entry)) preferred
         → (c : Assignment) → Words c mask values → Valid (decisionSizes (s .plant)) c → Puts s (resolving (decisionSizes (s .plant)) (s .parent) c) (now (queue .exit)) r) ⌝ }
 {
     let mut passed = node;
@@ -249,6 +272,7 @@ pub fn resolve(
                 v,
                 wide(sizes[v]),
                 y,
+                weighed,
                 preferred,
                 costs,
                 queue,
@@ -259,7 +283,7 @@ pub fn resolve(
                 return Put::Full;
             };
             entries = more;
-            let next = given(passed, v, y, preferred, costs);
+            let next = given(passed, v, y, weighed, preferred, costs);
             passed = next;
         }
         v += 1;

@@ -7,7 +7,7 @@ use Prim.Native.Nat.{ℕ, _^_, _≤_, _<_}
 use native.Mathlib.Omega.{arith}
 use lib.ListN.{length, replicate, take, length-map}
 use Rattle.model.specs.Lists.{All}
-use Rattle.model.specs.Sheet.{Plant, Read, got, edition1, readSheet, decisionSizes}
+use Rattle.model.specs.Sheet.{Plant, Read, got, edition1, editionOf, readSheet, readEither, decisionSizes}
 use Rattle.model.specs.Assignment.{Assignment, Valid, assignmentOf, maskFits, valuesFit, wellFormed}
 use Rattle.model.specs.Consistency.{Tested, consistent, inconsistent, test}
 use Rattle.model.specs.Conflict.{Reduced, conflict, ReducedAlone, nothing, reduced, reduce, reduceAlone}
@@ -17,7 +17,7 @@ use Rattle.theory.specs.Plant.{Accepted}
 use Rattle.theory.specs.Tables.{Tabled}
 use Rattle.theory.specs.Words.{Words}
 use Rattle.theory.proofs.Lists.{all-map, all-image}
-use Rattle.theory.proofs.Sheet.{accepted}
+use Rattle.theory.proofs.Sheet.{saysWeighed, either-is, either-accepted}
 use Rattle.theory.proofs.Tables.{tabled-decisions, tabled-count, tabled-few}
 use Rattle.theory.proofs.Test.{accepted-present, test-consistent, test-inconsistent}
 use Rattle.theory.proofs.Reduction.{reduce-alone}
@@ -102,17 +102,21 @@ module _ {p : Plant} {d : ℕ} {domains costs counts lits : List ℕ} (t : Table
 
 -- ---- a sheet and two words
 
+-- what the edition that the first byte says reads
+pub says-read : (sheet : List ℕ) {w : Bool} {x : Read Plant} → w ≡ saysWeighed sheet → readSheet (editionOf w) sheet ≡ x → readEither sheet ≡ x
+says-read sheet e h = either-is sheet ∙ ap (λ (w : Bool). readSheet (editionOf w) sheet) (sym e) ∙ h
+
 module _ {A : Type 0} (sheet : List ℕ) (mask values : ℕ) (ask : Plant → Assignment → A) where
-  sheet-refused : {n : ℕ} → readSheet edition1 sheet ≡ Read.refused n → onWords edition1 sheet mask values ask ≡ refused (byAuthor n)
+  sheet-refused : {n : ℕ} → readEither sheet ≡ Read.refused n → onWords sheet mask values ask ≡ refused (byAuthor n)
   unfolding onWords
   sheet-refused e = rw (onWords, e)
 
-  sheet-got : {p : Plant} {end : ℕ} → readSheet edition1 sheet ≡ got p end → onWords edition1 sheet mask values ask ≡ onPlant p mask values (ask p)
+  sheet-got : {p : Plant} {end : ℕ} → readEither sheet ≡ got p end → onWords sheet mask values ask ≡ onPlant p mask values (ask p)
   unfolding onWords onPlant
   sheet-got e = rw (onWords, e)
 
 module _ (sheet : List ℕ) (mask values limit : ℕ) {minimal : Bool} where
-  pub sheet-refuses : {n : ℕ} → readSheet edition1 sheet ≡ Read.refused n → Answers minimal (refusing (Whose.Author n)) (testCall sheet mask values limit) (reduceCall sheet mask values limit)
+  pub sheet-refuses : {n : ℕ} → readEither sheet ≡ Read.refused n → Answers minimal (refusing (Whose.Author n)) (testCall sheet mask values limit) (reduceCall sheet mask values limit)
   unfolding testCall reduceCall
   sheet-refuses e = record {
     test = λ _. rw (testCall, sheet-refused sheet mask values (λ p a. test p limit a 0) e);
@@ -120,7 +124,7 @@ module _ (sheet : List ℕ) (mask values limit : ℕ) {minimal : Bool} where
     shows = rw (testCall, sheet-refused sheet mask values (λ p a. test p limit a 0) e);
   }
 
-  pub sheet-answers : {p : Plant} {end : ℕ} → readSheet edition1 sheet ≡ got p end
+  pub sheet-answers : {p : Plant} {end : ℕ} → readEither sheet ≡ got p end
       → {r : Asked} → Answers minimal r (onPlant p mask values (λ a. test p limit a 0)) (onPlant p mask values (λ a. reduceAlone p limit a))
       → Answers minimal r (testCall sheet mask values limit) (reduceCall sheet mask values limit)
   unfolding testCall reduceCall
@@ -162,7 +166,7 @@ module _ (sheet : List ℕ) (mask values : ℕ) where
   -- what holds of each refusal, and of what a valid assignment of the plant answers, holds of the answer
   answer-says : {A : Type 0} (ask : Plant → Assignment → A) (S : Plant → Assignment → Answered A → Type 0) → ((p : Plant) (a : Assignment) (r : Refusal) → S p a (refused r))
       → ((p : Plant) → Accepted edition1 p → (a : Assignment) → Valid (decisionSizes p) a → S p a (answered (ask p a)))
-      → (p : Plant) (end : ℕ) → readSheet edition1 sheet ≡ got p end → S p (assignmentOf (length (p .costs)) mask values) (onWords edition1 sheet mask values ask)
+      → (p : Plant) (end : ℕ) → readEither sheet ≡ got p end → S p (assignmentOf (length (p .costs)) mask values) (onWords sheet mask values ask)
   answer-says ask S refuses answers p end h = rw (sheet-got sheet mask values ask h) (go (firstGiven (wordGrounds (decisionSizes p) mask values)) refl)
     where
       go : (o : Option ℕ) → firstGiven (wordGrounds (decisionSizes p) mask values) ≡ o → S p (assignmentOf (length (p .costs)) mask values) (onPlant p mask values (ask p))
@@ -170,7 +174,7 @@ module _ (sheet : List ℕ) (mask values : ℕ) where
       go none e =
           let l = length-map (p .costs) length in
           let f : groundNumber (firstGiven (wordGrounds (decisionSizes p) mask values)) ≡ 0 = rw e in
-          rw (plant-answered p mask values (ask p) e) (answers p (accepted sheet p end h .0) _ (rw l at (well-formed-valid (decisionSizes p) mask values (fit (decisionSizes p) mask values f .1))))
+          rw (plant-answered p mask values (ask p) e) (answers p (either-accepted sheet p end h .0) _ (rw l at (well-formed-valid (decisionSizes p) mask values (fit (decisionSizes p) mask values f .1))))
 
 module _ (limit : ℕ) (p : Plant) (ok : Accepted edition1 p) (a : Assignment) (valid : Valid (decisionSizes p) a) where
   test-says : TestSays p a (shownBy (test p limit a 0)) (answered (withoutValues (test p limit a 0)))
@@ -221,7 +225,7 @@ module _ (sheet : List ℕ) (mask values limit : ℕ) {r : Asked} where
 
 module _ (sheet : List ℕ) (mask values : ℕ) {A B : Type 0} (ask : Plant → Assignment → A) (g : A → B) (r : Refusal) where
   -- where the sheet is accepted, a refusal's number is one of the words' grounds, and so not 0
-  refusal-number : refused r ≡ onAnswer g (onWords edition1 sheet mask values ask) → (p : Plant) (end : ℕ) → readSheet edition1 sheet ≡ got p end → refusalNumber r ≡ 0 → ⊥
+  refusal-number : refused r ≡ onAnswer g (onWords sheet mask values ask) → (p : Plant) (end : ℕ) → readEither sheet ≡ got p end → refusalNumber r ≡ 0 → ⊥
   refusal-number e p end h z = go (firstGiven (wordGrounds (decisionSizes p) mask values)) refl (rw (sheet-got sheet mask values ask h) at e)
     where
       go : (o : Option ℕ) → firstGiven (wordGrounds (decisionSizes p) mask values) ≡ o → refused r ≡ onAnswer g (onPlant p mask values (ask p)) → ⊥
@@ -239,10 +243,10 @@ module _ (sheet : List ℕ) (mask values : ℕ) {A B : Type 0} (ask : Plant → 
           absurd (omega arith)
 
 module _ (sheet : List ℕ) (mask values limit : ℕ) (r : Whose) where
-  pub test-refusal : refused (refusalOf r) ≡ onAnswer withoutValues (testCall sheet mask values limit) → (p : Plant) (end : ℕ) → readSheet edition1 sheet ≡ got p end → refusalNumber (refusalOf r) ≡ 0 → ⊥
+  pub test-refusal : refused (refusalOf r) ≡ onAnswer withoutValues (testCall sheet mask values limit) → (p : Plant) (end : ℕ) → readEither sheet ≡ got p end → refusalNumber (refusalOf r) ≡ 0 → ⊥
   unfolding testCall
   test-refusal = refusal-number sheet mask values (λ p a. test p limit a 0) withoutValues (refusalOf r)
 
-  pub reduce-refusal : refused (refusalOf r) ≡ onAnswer worded (reduceCall sheet mask values limit) → (p : Plant) (end : ℕ) → readSheet edition1 sheet ≡ got p end → refusalNumber (refusalOf r) ≡ 0 → ⊥
+  pub reduce-refusal : refused (refusalOf r) ≡ onAnswer worded (reduceCall sheet mask values limit) → (p : Plant) (end : ℕ) → readEither sheet ≡ got p end → refusalNumber (refusalOf r) ≡ 0 → ⊥
   unfolding reduceCall
   reduce-refusal = refusal-number sheet mask values (λ p a. reduceAlone p limit a) worded (refusalOf r)

@@ -5,7 +5,7 @@ use mathlib.Core.Option.{none, some}
 use mathlib.Core.List.{List, []}
 use Prim.Native.Nat.{ℕ}
 use lib.ListN.{length, replicate}
-use Rattle.model.specs.Sheet.{Plant, got, edition1, readSheet, decisionSizes}
+use Rattle.model.specs.Sheet.{Plant, got, readEither, decisionSizes}
 use Rattle.model.specs.Assignment.{Assignment, maskOf, valuesOf, assignmentOf}
 use Rattle.model.specs.Consistency.{Tested, consistent, inconsistent, Consistent}
 use Rattle.model.specs.Conflict.{Reduced, ReducedAlone, reduced, Minimal, manifests}
@@ -60,9 +60,9 @@ TestSays p a bytes (answered (consistent f t)) = Consistent p a × Shows p a byt
 TestSays p a bytes (answered (inconsistent t)) = Consistent p a → ⊥
 TestSays p a bytes (answered (Tested.spent t)) = Unit {0}
 
--- it is right about the assignment that the words hold to the decision variables of the sheet's plant
+-- it is right about the assignment that the words hold to the decision variables of the sheet's plant, of either edition
 abbrev pub TestRight : List ℕ → ℕ → ℕ → TestShown → Type 0
-TestRight sheet mask values r = (p : Plant) (end : ℕ) → readSheet edition1 sheet ≡ got p end → TestSays p (assignmentOf (length (p .costs)) mask values) (r .values) (testOf (r .answer))
+TestRight sheet mask values r = (p : Plant) (end : ℕ) → readEither sheet ≡ got p end → TestSays p (assignmentOf (length (p .costs)) mask values) (r .values) (testOf (r .answer))
 
 -- ---- the reduction
 
@@ -92,7 +92,7 @@ ReduceSays p a (answered (conflict mask values t)) = (Consistent p a → ⊥) ×
 ReduceSays p a (answered (Worded.spent t)) = Unit {0}
 
 abbrev pub ReduceRight : List ℕ → ℕ → ℕ → ReduceAnswer → Type 0
-ReduceRight sheet mask values r = (p : Plant) (end : ℕ) → readSheet edition1 sheet ≡ got p end → ReduceSays p (assignmentOf (length (p .costs)) mask values) (reduceOf r)
+ReduceRight sheet mask values r = (p : Plant) (end : ℕ) → readEither sheet ≡ got p end → ReduceSays p (assignmentOf (length (p .costs)) mask values) (reduceOf r)
 
 -- ---- both by one function
 

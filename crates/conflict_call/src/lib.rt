@@ -182,15 +182,23 @@ fn conflict_tables(
     )
 }
 
-// The same on the sheet's plant, or what refuses the sheet or the words.
+// The same on the plant of a sheet of either edition, or what refuses the sheet or the words.
 fn conflict_call(sheet: &[u8], mask: u64, values: u64, limit: u32, minimal: bool) -> Asked
     ensures { λ r. ⌜ Answers minimal r (testCall (now (sheet .entry)) mask values limit) (reduceCall (now (sheet .entry)) mask values limit) ⌝ }
 {
+    let weighed = sheet::weighed(sheet);
     let mut sizes = [0u8; SIZE_ENTRIES];
     let mut costs = [0u16; COST_ENTRIES];
     let mut counts = [0u8; COUNT_ENTRIES];
     let mut lits = [0u8; LITERAL_BYTES];
-    match sheet::read(sheet, &mut sizes, &mut costs, &mut counts, &mut lits) {
+    match sheet::read(
+        sheet,
+        weighed,
+        &mut sizes,
+        &mut costs,
+        &mut counts,
+        &mut lits,
+    ) {
         sheet::Answer::Refused(n) => refused(Refusal::Author(n)),
         sheet::Answer::Counts(d, s, c) => {
             let n = d + s;

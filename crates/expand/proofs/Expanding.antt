@@ -11,7 +11,6 @@ use Rattle.model.specs.Lists.{All}
 use Rattle.model.specs.Sheet.{Plant, decisionSizes}
 use Rattle.model.specs.Assignment.{Assignment, Valid, isFull}
 use Rattle.model.specs.Conflict.{Conflict, resolves}
-use Rattle.model.specs.Order.{orderOf}
 use Rattle.model.specs.Listing.{State, firstUnresolved, resolving, branching, leaveOff, putChildren, judge, expand}
 use Rattle.theory.specs.Plant.{Sized}
 use Rattle.theory.specs.Words.{Words, Wide, wideOf}
@@ -30,7 +29,7 @@ use Rattle.conflict.specs.Given.{Ready}
 use Rattle.conflict.proofs.Given.{tabled-ready}
 use Rattle.judge.specs.declared.Progress.{Progress}
 use Rattle.judge.specs.declared.Next.{Next as After}
-use Rattle.judge.specs.Standing.{Question, Written, Removed, NextIs}
+use Rattle.judge.specs.Standing.{Question, orderIn, Written, Removed, NextIs}
 use Rattle.expand.specs.Expands.{Expands, queuing, PutNext}
 
 -- the first unresolved conflict is one of the store's
@@ -43,13 +42,12 @@ unresolved p n c (d ∷ store) a e = go (resolves n d) refl (unresolved p n c st
     go false f ih = let h : some d ≡ some c = rw (firstUnresolved, f) at e in let same : d ≡ c = cc in rw same at (a .0)
 
 -- what is written down does not tell of the queue
-pub queued-written : {q : Question} {store codes costs values : List ℕ} {g : Progress} {s : State} → Written q store codes costs values g s → (n : ℕ) (nodes : List Assignment)
-    → Written q store codes costs values (queuing g n)
+pub queued-written : {weighed : Bool} {q : Question weighed} {store codes values : List ℕ} {g : Progress} {s : State} → Written q store codes values g s → (n : ℕ) (nodes : List Assignment)
+    → Written q store codes values (queuing g n)
     (record { queue = nodes; store = s .store; listed = s .listed; shown = s .shown; tested = s .tested; learned = s .learned; unkept = s .unkept; trials = s .trials; struck = s .struck })
 queued-written w n nodes = record {
   keeps = w .keeps;
   codes-are = w .codes-are;
-  costs-are = w .costs-are;
   values-are = w .values-are;
   listed-is = w .listed-is;
   tested-is = w .tested-is;
@@ -58,9 +56,9 @@ queued-written w n nodes = record {
   trials-is = w .trials-is;
 }
 
-module _ {q : Question} {limit : ℕ} {queue store codes costs values : List ℕ} {g : Progress} {node : Node} (t : Removed q limit queue store codes costs values g node) where
+module _ {weighed : Bool} {q : Question weighed} {limit : ℕ} {queue store codes values : List ℕ} {g : Progress} {node : Node} (t : Removed q limit queue store codes values g node) where
   -- what the step's words stand for
-  abbrev pub removed-step : Step node queue (g .queued) store (g .stored)
+  abbrev pub removed-step : Step weighed node queue (g .queued) store (g .stored)
   removed-step = record {
     plant = q .plant;
     parent = t .parent;
@@ -81,11 +79,11 @@ module _ {q : Question} {limit : ℕ} {queue store codes costs values : List ℕ
   parent-length = valid-length (decisionSizes (q .plant)) (t .parent) (t .is .valid) ∙ length-map (q .plant .costs) length
 
   -- the store's answer for the node's words is the model's for the node
-  module _ {wide held : ℕ} (r : Unresolved) (e : wide ≡ wideOf (node .mask)) (words : (p : Plant) (n : Assignment) → NodeIs p n node → Words n (node .mask) held)
+  module _ {wide held : ℕ} (r : Unresolved) (e : wide ≡ wideOf (node .mask)) (words : (w : Bool) (p : Plant) (n : Assignment) → NodeIs w p n node → Words n (node .mask) held)
       (answer : (d : ℕ) (conflicts : List Assignment) (n : Assignment) → Keeps d store (g .stored) conflicts → Wide n wide held → length n ≡ d → Tells r (firstUnresolved conflicts n)) where
     told : Tells r (firstUnresolved (t .state .store) (t .parent))
     told = answer (length (q .plant .costs)) (t .state .store) (t .parent) (t .turn .standing .written .keeps)
-        (record { mask = node .mask; words = words (q .plant) (t .parent) (t .is); wide-is = e }) parent-length
+        (record { mask = node .mask; words = words weighed (q .plant) (t .parent) (t .is); wide-is = e }) parent-length
 
     -- that conflict, by its words
     pub found-one : {mask others : ℕ} → r ≡ Unresolved.At mask others → (c : Assignment) × (firstUnresolved (t .state .store) (t .parent) ≡ some c) × Words c mask others
@@ -109,7 +107,7 @@ module _ {q : Question} {limit : ℕ} {queue store codes costs values : List ℕ
   module _ (after : List ℕ) (same : length after ≡ length queue) where
     -- step 6
     put-is : (children : List Assignment) (r : Put) (n : After) → Puts removed-step children after r → PutNext g r n
-        → NextIs q after store codes costs values n (putChildren (q .plant) (orderOf (q .plant)) (q .wanted) (length queue / 2) (length store / 2) limit (t .state) (t .rest) children)
+        → NextIs q after store codes values n (putChildren (q .plant) (orderIn q) (q .wanted) (length queue / 2) (length store / 2) limit (t .state) (t .rest) children)
     unfolding PutOf putChildren
     put-is children Put.Full n h e = rw (e, putChildren, h) (refl, t .turn .standing .written)
     put-is children (Put.Entries m) n h e =
@@ -124,31 +122,31 @@ module _ {q : Question} {limit : ℕ} {queue store codes costs values : List ℕ
     -- step 4
     pub resolved-is : (c : Assignment) (r : Put) (n : After) → firstUnresolved (t .state .store) (t .parent) ≡ some c
         → Puts removed-step (resolving (decisionSizes (q .plant)) (t .parent) c) after r → PutNext g r n
-        → NextIs q after store codes costs values n (expand (q .plant) (orderOf (q .plant)) (q .wanted) (length queue / 2) (length store / 2) limit (t .state) (t .rest) (t .parent))
+        → NextIs q after store codes values n (expand (q .plant) (orderIn q) (q .wanted) (length queue / 2) (length store / 2) limit (t .state) (t .rest) (t .parent))
     unfolding expand
     resolved-is c r n f h e = rw (expand, f) (put-is (resolving (decisionSizes (q .plant)) (t .parent) c) r n h e)
 
     -- step 5
     pub branched-is : (r : Put) (n : After) → firstUnresolved (t .state .store) (t .parent) ≡ none → isFull (t .parent) ≡ false
         → Puts removed-step (branching (decisionSizes (q .plant)) (t .parent)) after r → PutNext g r n
-        → NextIs q after store codes costs values n (expand (q .plant) (orderOf (q .plant)) (q .wanted) (length queue / 2) (length store / 2) limit (t .state) (t .rest) (t .parent))
+        → NextIs q after store codes values n (expand (q .plant) (orderIn q) (q .wanted) (length queue / 2) (length store / 2) limit (t .state) (t .rest) (t .parent))
     unfolding expand
     branched-is r n f b h e = rw (expand, f, b) (put-is (branching (decisionSizes (q .plant)) (t .parent)) r n h e)
 
   -- step 7
   pub judged-is : firstUnresolved (t .state .store) (t .parent) ≡ none → isFull (t .parent) ≡ true
-      → judge (q .plant) (orderOf (q .plant)) (q .wanted) (length queue / 2) (length store / 2) limit (t .state) (t .rest) (t .parent)
-      ≡ expand (q .plant) (orderOf (q .plant)) (q .wanted) (length queue / 2) (length store / 2) limit (t .state) (t .rest) (t .parent)
+      → judge (q .plant) (orderIn q) (q .wanted) (length queue / 2) (length store / 2) limit (t .state) (t .rest) (t .parent)
+      ≡ expand (q .plant) (orderIn q) (q .wanted) (length queue / 2) (length store / 2) limit (t .state) (t .rest) (t .parent)
   unfolding expand
   judged-is f b = rw (expand, f, b) refl
 
 -- what the functions that it calls are given
-module _ {d : ℕ} {sizes prices counts lits sat uses plan : List ℕ} {preferred limit : ℕ} {codes costs values queue store : List ℕ} {g : Progress} {node : Node}
-    (t : Expands d sizes prices counts lits sat uses plan preferred limit codes costs values queue store g node) where
+module _ {d : ℕ} {sizes prices counts lits sat uses plan : List ℕ} {weighed : Bool} {preferred limit : ℕ} {codes values queue store : List ℕ} {g : Progress} {node : Node}
+    (t : Expands d sizes prices counts lits sat uses plan weighed preferred limit codes values queue store g node) where
   pub children-given : (d ≤ 16) × (d ≤ length sizes) × (16 * d ≤ length prices) × All Sized (take d sizes) × (2 * g .stored ≤ length store)
   children-given =
       let tabled = t .tables .tabled in
       (tabled-few tabled, tabled .decisions, tabled .cost-room, rw (tabled-decisions tabled) at (tabled-sized tabled), removed-room (t .taken))
 
-  pub judge-given : Ready d sizes counts lits sat uses plan × ((q : Question) × Removed q limit queue store codes costs values g node)
+  pub judge-given : Ready d sizes counts lits sat uses plan × ((q : Question weighed) × Removed q limit queue store codes values g node)
   judge-given = (tabled-ready (t .tables .tabled) (t .tables .prepared) (t .tables .planned), (t .question, t .taken))

@@ -1,12 +1,14 @@
 -- What a node's expansion is given, with the plant's tables, and what becomes of the progress where children are put. Assumes nothing: these are definitions.
 use mathlib.Core.Path.{_≡_}
+use mathlib.Core.Bool.{Bool}
 use mathlib.Core.List.{List}
 use Prim.Native.Nat.{ℕ}
 use lib.ListN.{length}
-use Rattle.model.specs.Sheet.{Plant}
+use Rattle.model.specs.Sheet.{Plant, editionOf}
 use Rattle.model.specs.Tables.{clauses}
+use Rattle.theory.specs.Plant.{Accepted}
 use Rattle.theory.specs.Tables.{Tabled}
-use Rattle.theory.specs.Value.{CheapestValues}
+use Rattle.theory.specs.Value.{PreferredValues}
 use Rattle.plan.specs.Plans.{planWords}
 use Rattle.clauses.specs.Tables.{Prepared}
 use Rattle.children.specs.declared.Node.{Node}
@@ -16,18 +18,19 @@ use Rattle.judge.specs.declared.Ending.{Ending as Ended}
 use Rattle.judge.specs.declared.Next.{Next as After}
 use Rattle.judge.specs.Standing.{Question, Removed}
 
--- a plant's tables, with what is made of them once, the sets of clauses and the word that hands in each decision variable's cheapest value, and room for the search
-pub record Tables (p : Plant) (d : ℕ) (sizes prices counts lits sat uses plan : List ℕ) (preferred : ℕ) : Type 0 where
+-- a plant's tables, with what is made of them once, the sets of clauses and the word that hands in each decision variable's best value, and room for the search
+pub record Tables (weighed : Bool) (p : Plant) (d : ℕ) (sizes prices counts lits sat uses plan : List ℕ) (preferred : ℕ) : Type 0 where
   pub tabled : Tabled p d sizes prices counts lits
+  pub accepted : Accepted (editionOf weighed) p
   pub prepared : Prepared (clauses counts lits) sat uses
   pub planned : length plan ≡ planWords
-  pub preferred-is : CheapestValues p preferred
+  pub preferred-is : PreferredValues weighed p preferred
 
 -- before steps 4 to 7: a node has been removed
-pub record Expands (d : ℕ) (sizes prices counts lits sat uses plan : List ℕ) (preferred limit : ℕ) (codes costs values queue store : List ℕ) (g : Progress) (node : Node) : Type 0 where
-  pub question : Question
-  pub tables : Tables (question .plant) d sizes prices counts lits sat uses plan preferred
-  pub taken : Removed question limit queue store codes costs values g node
+pub record Expands (d : ℕ) (sizes prices counts lits sat uses plan : List ℕ) (weighed : Bool) (preferred limit : ℕ) (codes values queue store : List ℕ) (g : Progress) (node : Node) : Type 0 where
+  pub question : Question weighed
+  pub tables : Tables weighed (question .plant) d sizes prices counts lits sat uses plan preferred
+  pub taken : Removed question limit queue store codes values g node
 
 -- the same progress with so many entries in the queue
 abbrev pub queuing : Progress → ℕ → Progress

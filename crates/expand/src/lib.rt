@@ -18,12 +18,11 @@ ghost use Prim.Native.Nat.{ℕ, _*_, _/_, _≤_};
 ghost use lib.ListN.{length, take};
 ghost use Rattle.model.specs.Lists.{All};
 ghost use Rattle.model.specs.Assignment.{Assignment, isFull};
-ghost use Rattle.model.specs.Order.{orderOf};
 ghost use Rattle.model.specs.Listing.{firstUnresolved, expand};
 ghost use Rattle.theory.specs.Plant.{Sized};
 ghost use Rattle.theory.specs.Words.{Words};
 ghost use Rattle.children.specs.Children.{Tables};
-ghost use Rattle.judge.specs.Standing.{Question, Removed, NextIs};
+ghost use Rattle.judge.specs.Standing.{Question, orderIn, Removed, NextIs};
 ghost use Rattle.plan.specs.Plans.{planWords};
 ghost use Rattle.expand.specs.Expands.{PutNext, Expands};
 
@@ -41,6 +40,7 @@ fn put(g: Progress, r: Put) -> Next
 fn resolve(
     sizes: &[u8],
     prices: &[u16],
+    weighed: bool,
     preferred: u64,
     d: usize,
     node: Node,
@@ -51,11 +51,11 @@ fn resolve(
     g: Progress,
 ) -> Next
     requires { ⌜ (d ≤ 16) × (d ≤ length (now sizes)) × (16 * d ≤ length (now prices)) × All Sized (take d (now sizes)) × (2 * g .stored ≤ length (now store)) ⌝ }
-    ensures { λ r. ⌜ ((q : Question) (limit : ℕ) (codes costs shown : List ℕ) (t : Removed q limit (now (queue .entry)) (now (store .entry)) codes costs shown g node)
-        → Tables (q .plant) d (now (sizes .entry)) (now (prices .entry)) preferred
+    ensures { λ r. ⌜ ((q : Question weighed) (limit : ℕ) (codes shown : List ℕ) (t : Removed q limit (now (queue .entry)) (now (store .entry)) codes shown g node)
+        → Tables weighed (q .plant) d (now (sizes .entry)) (now (prices .entry)) preferred
         → (c : Assignment) → firstUnresolved (t .state .store) (t .parent) ≡ some c → Words c mask values
-        → NextIs q (now (queue .exit)) (now (store .entry)) codes costs shown r
-        (expand (q .plant) (orderOf (q .plant)) (q .wanted) (length (now (queue .entry)) / 2) (length (now (store .entry)) / 2) limit (t .state) (t .rest) (t .parent))) ⌝ }
+        → NextIs q (now (queue .exit)) (now (store .entry)) codes shown r
+        (expand (q .plant) (orderIn q) (q .wanted) (length (now (queue .entry)) / 2) (length (now (store .entry)) / 2) limit (t .state) (t .rest) (t .parent))) ⌝ }
 {
     let n = g.queued;
     let m = g.stored;
@@ -64,6 +64,7 @@ fn resolve(
         children::resolve(
             sizes,
             prices,
+            weighed,
             preferred,
             d,
             node,
@@ -81,6 +82,7 @@ fn resolve(
 fn branch(
     sizes: &[u8],
     prices: &[u16],
+    weighed: bool,
     preferred: u64,
     d: usize,
     node: Node,
@@ -89,17 +91,28 @@ fn branch(
     g: Progress,
 ) -> Next
     requires { ⌜ (d ≤ 16) × (d ≤ length (now sizes)) × (16 * d ≤ length (now prices)) × All Sized (take d (now sizes)) × (2 * g .stored ≤ length (now store)) ⌝ }
-    ensures { λ r. ⌜ ((q : Question) (limit : ℕ) (codes costs shown : List ℕ) (t : Removed q limit (now (queue .entry)) (now (store .entry)) codes costs shown g node)
-        → Tables (q .plant) d (now (sizes .entry)) (now (prices .entry)) preferred
+    ensures { λ r. ⌜ ((q : Question weighed) (limit : ℕ) (codes shown : List ℕ) (t : Removed q limit (now (queue .entry)) (now (store .entry)) codes shown g node)
+        → Tables weighed (q .plant) d (now (sizes .entry)) (now (prices .entry)) preferred
         → firstUnresolved (t .state .store) (t .parent) ≡ none → isFull (t .parent) ≡ false
-        → NextIs q (now (queue .exit)) (now (store .entry)) codes costs shown r
-        (expand (q .plant) (orderOf (q .plant)) (q .wanted) (length (now (queue .entry)) / 2) (length (now (store .entry)) / 2) limit (t .state) (t .rest) (t .parent))) ⌝ }
+        → NextIs q (now (queue .exit)) (now (store .entry)) codes shown r
+        (expand (q .plant) (orderIn q) (q .wanted) (length (now (queue .entry)) / 2) (length (now (store .entry)) / 2) limit (t .state) (t .rest) (t .parent))) ⌝ }
 {
     let n = g.queued;
     let m = g.stored;
     put(
         g,
-        children::branch(sizes, prices, preferred, d, node, queue, n, store, m),
+        children::branch(
+            sizes,
+            prices,
+            weighed,
+            preferred,
+            d,
+            node,
+            queue,
+            n,
+            store,
+            m,
+        ),
     )
 }
 
@@ -113,9 +126,9 @@ pub fn expand(
     sat: &Sat,
     uses: &[u64],
     plan: &mut Plan,
+    weighed: bool,
     preferred: u64,
     codes: &mut [u64],
-    costs: &mut [u32],
     values: &mut [u8],
     queue: &mut [u64],
     store: &mut [u64],
@@ -123,15 +136,27 @@ pub fn expand(
     node: Node,
     limit: u32,
 ) -> Next
-    requires { ⌜ Expands d (now sizes) (now prices) (now counts) (now lits) (now sat) (now uses) (now plan) preferred limit (now codes) (now costs) (now values) (now queue) (now store) g node ⌝ }
-    ensures answer { λ r. ⌜ ((t : Expands d (now (sizes .entry)) (now (prices .entry)) (now (counts .entry)) (now (lits .entry)) (now (sat .entry)) (now (uses .entry)) (now (plan .entry)) preferred limit (now (codes .entry)) (now (costs .entry)) (now (values .entry)) (now (queue .entry)) (now (store .entry)) g node)
-        → NextIs (t .question) (now (queue .exit)) (now (store .exit)) (now (codes .exit)) (now (costs .exit)) (now (values .exit)) r
-        (expand (t .question .plant) (orderOf (t .question .plant)) (t .question .wanted) (length (now (queue .entry)) / 2) (length (now (store .entry)) / 2) limit (t .taken .state) (t .taken .rest) (t .taken .parent))) ⌝ }
+    requires { ⌜ Expands d (now sizes) (now prices) (now counts) (now lits) (now sat) (now uses) (now plan) weighed preferred limit (now codes) (now values) (now queue) (now store) g node ⌝ }
+    ensures answer { λ r. ⌜ ((t : Expands d (now (sizes .entry)) (now (prices .entry)) (now (counts .entry)) (now (lits .entry)) (now (sat .entry)) (now (uses .entry)) (now (plan .entry)) weighed preferred limit (now (codes .entry)) (now (values .entry)) (now (queue .entry)) (now (store .entry)) g node)
+        → NextIs (t .question) (now (queue .exit)) (now (store .exit)) (now (codes .exit)) (now (values .exit)) r
+        (expand (t .question .plant) (orderIn (t .question)) (t .question .wanted) (length (now (queue .entry)) / 2) (length (now (store .entry)) / 2) limit (t .taken .state) (t .taken .rest) (t .taken .parent))) ⌝ }
     ensures long { λ _. ⌜ length (now (plan .exit)) ≡ planWords ⌝ }
 {
     let held = children::values(node);
     match store::first_unresolved(store, g.stored, held, words::widened(node.mask)) {
-        Unresolved::At(m, x) => resolve(sizes, prices, preferred, d, node, m, x, queue, store, g),
+        Unresolved::At(m, x) => resolve(
+            sizes,
+            prices,
+            weighed,
+            preferred,
+            d,
+            node,
+            m,
+            x,
+            queue,
+            store,
+            g,
+        ),
         Unresolved::Nothing => {
             if words::is_full(node.mask, d) {
                 return judge(
@@ -142,8 +167,8 @@ pub fn expand(
                     sat,
                     uses,
                     plan,
+                    weighed,
                     codes,
-                    costs,
                     values,
                     queue,
                     store,
@@ -152,7 +177,7 @@ pub fn expand(
                     limit,
                 );
             }
-            branch(sizes, prices, preferred, d, node, queue, store, g)
+            branch(sizes, prices, weighed, preferred, d, node, queue, store, g)
         }
     }
 }

@@ -1,5 +1,5 @@
 // The calls on a sheet for a C program, on numbers and lent buffers: each returns a refusal's number, or 0 after its result
-// words were written. `include/leading.h` declares them, and with `export_tables` they make the archive that a host links.
+// words were written. `include/leading.h` declares them, and with `export_weights` and `export_tables` they make the archive that a host links.
 use conflict_call::ReduceAnswer;
 use conflict_call::TestAnswer;
 use conflict_call::reduce_call;
@@ -21,7 +21,7 @@ ghost use Rattle.listing.specs.Listing.{buffers, countsOf};
 ghost use Rattle.export.specs.Exports.{version, exported, ExportPromises, TestTells, ReduceTells};
 
 // Result words of a listing.
-const LISTING_WORDS: usize = 6;
+pub const LISTING_WORDS: usize = 6;
 
 // Result words of a test or a reduction, and words of a conflict.
 const TEST_WORDS: usize = 2;
@@ -30,7 +30,7 @@ const TEST_WORDS: usize = 2;
 const SHORT: u32 = 2;
 
 // MAJOR, MINOR and PATCH of the header, a byte each from the third on.
-const VERSION: u32 = 65792;
+const VERSION: u32 = 66048;
 
 // The version of these exports, which the header has too.
 #[no_mangle]
@@ -53,7 +53,7 @@ fn ending_number(e: Ending) -> u32
 }
 
 // Writes the six result words of a run.
-fn write(result: &mut [u32], e: Ending, c: Counts)
+pub fn write(result: &mut [u32], e: Ending, c: Counts)
     requires { ⌜ 6 ≤ length (now result) ⌝ }
     ensures { λ _. ⌜ now (result .exit) ≡ filled (resultWords (endingOf e) (countsOf c)) (now (result .entry)) ⌝ }
 {

@@ -12,7 +12,7 @@ use Rattle.model.specs.Tables.{Tables}
 use Rattle.model.specs.TableCalls.{Wrote, writeCall, readTables, tablesAfter, returnedBy, writtenWord, writeExport, readExport}
 use Rattle.theory.specs.Refusals.{TableNumber}
 use Rattle.theory.specs.WriteRead.{WritePromises, ReadPromises}
-use Rattle.theory.proofs.Refusals.{author-number, table-refusal}
+use Rattle.theory.proofs.Refusals.{author-number1, table-refusal}
 use Rattle.refusal.specs.declared.Refusal.{Refusal as Whose}
 use Rattle.refusal.specs.declared.Written.{Written}
 use Rattle.refusal.specs.Refusal.{refusalOf, writtenOf}
@@ -56,7 +56,7 @@ module _ (sheet : List ℕ) (lent after : Tables) where
       go (Read.refused n) e =
           let f : byAuthor n ≡ r = let a = rw (readTables, e) at h in cc a in
           let m : refusalNumber r ≡ n = sym (ap refusalNumber f) in
-          omega (arith, author-number edition1 sheet n e .0)
+          omega (arith, author-number1 sheet n e .0)
       go (got p end) e = let a = rw (readTables, e) at h in let z : _≡_ {A = ℕ} 0 1 = cc a in omega arith
 
   read-tells : (a : Answered Tables) → readTables sheet ≡ a → ReadPromises sheet a after → ReadTells sheet (returnedBy a) after

@@ -1,6 +1,6 @@
 -- Step 7 on words: what holds before the test, and one law for each way out of the test and of what follows an inconsistent one. Assumes nothing.
 use mathlib.Core.Path.{_≡_, refl, ap, _∙_}
-use mathlib.Core.Bool.{true}
+use mathlib.Core.Bool.{Bool, true}
 use mathlib.Core.List.{List, [], _∷_, _++_, map, map-append, append-nil}
 use Prim.Native.Nat.{ℕ, _+_, _*_, _/_, _≤_, _<_}
 use native.Mathlib.Omega.{arith}
@@ -11,7 +11,7 @@ use Rattle.model.specs.Sheet.{decisionSizes}
 use Rattle.model.specs.Assignment.{Assignment, Valid, isFull, valueList, code}
 use Rattle.model.specs.Consistency.{Tested, consistent, inconsistent, test}
 use Rattle.model.specs.Conflict.{Reduced, reduce}
-use Rattle.model.specs.Order.{Order, best, orderOf}
+use Rattle.model.specs.Order.{Order, best}
 use Rattle.model.specs.Calls.{stateBytes, valueBytes, shownBy}
 use Rattle.model.specs.Listing.{Next, stored, leaveOff, mostTested, learn, judge}
 use Rattle.theory.specs.Words.{Words}
@@ -23,18 +23,18 @@ use Rattle.theory.proofs.Lists.{in-turn-join}
 use Rattle.theory.proofs.Puts.{filled-then}
 use Rattle.theory.proofs.Shown.{accepted-few, shown-bytes}
 use Rattle.theory.proofs.Nodes.{full-best}
-use Rattle.theory.proofs.Order.{cost-lawful}
+use Rattle.theory.proofs.Order.{edition-lawful}
 use Rattle.conflict.specs.declared.reduce.Reduced.{Reduced as Answer}
 use Rattle.conflict.specs.Reduced.{Reduces}
 use Rattle.queue.specs.Order.{Suits}
 use Rattle.queue.specs.Queue.{Holds}
-use Rattle.queue.proofs.Callers.{cost-suits}
+use Rattle.children.proofs.Numbers.{node-entry}
 use Rattle.store.specs.Store.{Keeps}
 use Rattle.children.specs.declared.Node.{Node}
 use Rattle.judge.specs.declared.Progress.{Progress}
 use Rattle.judge.specs.declared.Ending.{Ending as Ended}
 use Rattle.judge.specs.declared.Next.{Next as After}
-use Rattle.judge.specs.Standing.{Question, Written, Removed, CanCount, NextIs}
+use Rattle.judge.specs.Standing.{Question, orderIn, Written, Removed, CanCount, NextIs}
 
 -- a run so far, by its numbers of entries, its states and its counts
 abbrev pub progress : (queued stored listed tested learned unkept trials : ℕ) → Progress
@@ -58,16 +58,12 @@ values-more : (shown : List (List ℕ)) (f : List ℕ) (buffer before bytes : Li
 values-more shown f buffer before bytes n m e l s b =
     rw (e, s, b, ← l, in-turn-join valueBytes shown (f ∷ []), append-nil (valueBytes f)) (filled-then (inTurn valueBytes shown) (valueBytes f) buffer)
 
-module _ {q : Question} {limit : ℕ} {queue store codes costs values : List ℕ} {g : Progress} {node : Node} (t : Removed q limit queue store codes costs values g node) where
+module _ {weighed : Bool} {q : Question weighed} {limit : ℕ} {queue store codes values : List ℕ} {g : Progress} {node : Node} (t : Removed q limit queue store codes values g node) where
   -- ---- what holds before the test
 
   -- what is written down
-  abbrev written : Written q store codes costs values g (t .state)
+  abbrev written : Written q store codes values g (t .state)
   written = t .turn .standing .written
-
-  -- there are at most 16 decision variables
-  few : length (q .plant .costs) ≤ 16
-  few = written .keeps .narrow
 
   -- the tallies' sum, while the limit has not struck
   sum : g .tested ≡ g .listed + g .learned + g .unkept
@@ -97,12 +93,9 @@ module _ {q : Question} {limit : ℕ} {queue store codes costs values : List ℕ
   pub codes-place : g .listed < length codes
   codes-place = listed-place code (q .codes) codes (written .codes-are) (t .turn .codes-room)
 
-  pub costs-place : g .listed < length costs
-  costs-place = listed-place (orderOf (q .plant) .figure) (q .costs) costs (written .costs-are) (t .turn .costs-room)
-
   -- the bytes that show the states listed so far
   shown-so-far : length (inTurn valueBytes (t .state .shown)) ≡ stateBytes * length (t .state .listed)
-  shown-so-far = shown-bytes (q .plant) (accepted-few (q .plant) (t .is .accepted)) (t .state .listed) (t .state .shown) (t .turn .going .kept .shown)
+  shown-so-far = shown-bytes (q .plant) (accepted-few weighed (q .plant) (t .is .accepted)) (t .state .listed) (t .state .shown) (t .turn .going .kept .shown)
 
   pub values-place : stateBytes * g .listed + stateBytes ≤ length values
   values-place =
@@ -119,10 +112,10 @@ module _ {q : Question} {limit : ℕ} {queue store codes costs values : List ℕ
   module _ (trials : ℕ) where
     -- what the model makes of it
     abbrev after : Next
-    after = learn (q .plant) (orderOf (q .plant)) (q .wanted) (length queue / 2) (length store / 2) limit (t .state) (t .rest) (t .parent) trials
+    after = learn (q .plant) (orderIn q) (q .wanted) (length queue / 2) (length store / 2) limit (t .state) (t .rest) (t .parent) trials
 
     -- the store is full: the node is unkept
-    pub learn-unkept : length store / 2 ≤ g .stored → NextIs q queue store codes costs values (After.More (progress (g .queued) (g .stored) (g .listed) (g .tested + 1) (g .learned) (g .unkept + 1) trials)) after
+    pub learn-unkept : length store / 2 ≤ g .stored → NextIs q queue store codes values (After.More (progress (g .queued) (g .stored) (g .listed) (g .tested + 1) (g .learned) (g .unkept + 1) trials)) after
     unfolding learn
     learn-unkept h = rw (learn, le-ltb (length (t .state .store)) (length store / 2) (omega (arith, written .keeps .count))) record {
       holds = t .turn .standing .holds;
@@ -130,7 +123,6 @@ module _ {q : Question} {limit : ℕ} {queue store codes costs values : List ℕ
       written = record {
         keeps = written .keeps;
         codes-are = written .codes-are;
-        costs-are = written .costs-are;
         values-are = written .values-are;
         listed-is = written .listed-is;
         tested-is = omega (arith, written .tested-is);
@@ -145,7 +137,7 @@ module _ {q : Question} {limit : ℕ} {queue store codes costs values : List ℕ
       has-place = omega (arith, written .keeps .count, free)
 
       -- the limit struck in the reduction
-      pub learn-spent : {u : ℕ} (later : List ℕ) → r ≡ Answer.Spent u → NextIs q later store codes costs values (After.Ended Ended.Spent (progress (g .queued) (g .stored) (g .listed) (g .tested + 1) (g .learned) (g .unkept) u)) after
+      pub learn-spent : {u : ℕ} (later : List ℕ) → r ≡ Answer.Spent u → NextIs q later store codes values (After.Ended Ended.Spent (progress (g .queued) (g .stored) (g .listed) (g .tested + 1) (g .learned) (g .unkept) u)) after
       unfolding learn
       learn-spent {u} later e =
           let k : reduce (q .plant) limit (t .parent) trials ≡ Reduced.spent u = rw e at h in
@@ -154,7 +146,6 @@ module _ {q : Question} {limit : ℕ} {queue store codes costs values : List ℕ
             record {
               keeps = written .keeps;
               codes-are = written .codes-are;
-              costs-are = written .costs-are;
               values-are = written .values-are;
               listed-is = written .listed-is;
               tested-is = omega (arith, written .tested-is);
@@ -167,21 +158,20 @@ module _ {q : Question} {limit : ℕ} {queue store codes costs values : List ℕ
       -- the conflict is put into the store, and the queue is sieved by it
       pub learn-conflict : {m x u : ℕ} → r ≡ Answer.Conflict m x u → (left places : ℕ) (queue′ store′ : List ℕ) → length queue′ ≡ length queue
           → ((d : ℕ) (conflicts : List Assignment) (c : Assignment) → Keeps d store (g .stored) conflicts → Words c m x → length c ≡ d → Keeps d store′ places (stored conflicts c))
-          → (left ≤ g .queued) × ((ss : List ℕ) (o : Order) (nodes : List Assignment) (c : Assignment) → Suits ss o → All (Valid ss) nodes → Words c m x → length c ≡ length ss
+          → (left ≤ g .queued) × ((ss : List ℕ) (o : Order) (nodes : List Assignment) (c : Assignment) → Suits ss o → weighed ≡ o .weighed → All (Valid ss) nodes → Words c m x → length c ≡ length ss
           → Holds o (g .queued) queue nodes → Holds o left queue′ (leaveOff (c ∷ []) nodes))
-          → NextIs q queue′ store′ codes costs values (After.More (progress left places (g .listed) (g .tested + 1) (g .learned + 1) (g .unkept) u)) after
+          → NextIs q queue′ store′ codes values (After.More (progress left places (g .listed) (g .tested + 1) (g .learned + 1) (g .unkept) u)) after
       unfolding learn
       learn-conflict {m} {x} {u} e left places queue′ store′ long put-in sieved =
           let k : Reduces (q .plant) (reduce (q .plant) limit (t .parent) trials) (Answer.Conflict m x u) = rw e at h in
           let members = valid-length (decisionSizes (q .plant)) (k .0) (k .1 .valid) in
           rw (learn, lt-ltb (length (t .state .store)) (length store / 2) has-place, k .2) record {
-            holds = sieved .1 (decisionSizes (q .plant)) (orderOf (q .plant)) (t .rest) (k .0) (cost-suits (q .plant) few (t .is .accepted .decision-sizes)) rest-valid (k .1 .words) members
+            holds = sieved .1 (decisionSizes (q .plant)) (orderIn q) (t .rest) (k .0) (node-entry (t .is) .0) (node-entry (t .is) .1) rest-valid (k .1 .words) members
                 (t .turn .standing .holds);
             room = omega (arith, long, sieved .0, t .turn .standing .room);
             written = record {
               keeps = put-in (length (q .plant .costs)) (t .state .store) (k .0) (written .keeps) (k .1 .words) (members ∙ length-map (q .plant .costs) length);
               codes-are = written .codes-are;
-              costs-are = written .costs-are;
               values-are = written .values-are;
               listed-is = written .listed-is;
               tested-is = omega (arith, written .tested-is);
@@ -195,10 +185,10 @@ module _ {q : Question} {limit : ℕ} {queue store codes costs values : List ℕ
 
   -- what the model makes of the node
   abbrev judged : Next
-  judged = judge (q .plant) (orderOf (q .plant)) (q .wanted) (length queue / 2) (length store / 2) limit (t .state) (t .rest) (t .parent)
+  judged = judge (q .plant) (orderIn q) (q .wanted) (length queue / 2) (length store / 2) limit (t .state) (t .rest) (t .parent)
 
   -- the tests are at their greatest count
-  pub judge-most : (later : List ℕ) → g .tested ≡ mostTested → NextIs q later store codes costs values (After.Ended Ended.Spent g) judged
+  pub judge-most : (later : List ℕ) → g .tested ≡ mostTested → NextIs q later store codes values (After.Ended Ended.Spent g) judged
   unfolding judge
   judge-most later e = rw (judge, le-ltb (t .state .tested) mostTested (omega (arith, written .tested-is))) (refl, written)
 
@@ -211,14 +201,13 @@ module _ {q : Question} {limit : ℕ} {queue store codes costs values : List ℕ
     counted e h = rw (written .trials-is) at h
 
     -- the limit struck in the test
-    pub judge-spent : {u : ℕ} (later : List ℕ) → test (q .plant) limit (t .parent) (g .trials) ≡ Tested.spent u → NextIs q later store codes costs values (After.Ended Ended.Spent (progress (g .queued) (g .stored) (g .listed) (g .tested) (g .learned) (g .unkept) u)) judged
+    pub judge-spent : {u : ℕ} (later : List ℕ) → test (q .plant) limit (t .parent) (g .trials) ≡ Tested.spent u → NextIs q later store codes values (After.Ended Ended.Spent (progress (g .queued) (g .stored) (g .listed) (g .tested) (g .learned) (g .unkept) u)) judged
     unfolding judge
     judge-spent {u} later e = rw (judge, lt-ltb (t .state .tested) mostTested below, counted (Tested.spent u) e) (
       refl,
       record {
         keeps = written .keeps;
         codes-are = written .codes-are;
-        costs-are = written .costs-are;
         values-are = written .values-are;
         listed-is = written .listed-is;
         tested-is = written .tested-is;
@@ -236,12 +225,12 @@ module _ {q : Question} {limit : ℕ} {queue store codes costs values : List ℕ
     -- it was consistent: the state is listed
     pub judge-listed : {f : List ℕ} {u : ℕ} {bytes : List ℕ} → isFull (t .parent) ≡ true → test (q .plant) limit (t .parent) (g .trials) ≡ consistent f u
         → bytes ≡ shownBy (test (q .plant) limit (t .parent) (g .trials))
-        → NextIs q queue store (set codes (g .listed) (node .code)) (set costs (g .listed) (node .cost)) (put (stateBytes * g .listed) bytes values) (After.More (progress (g .queued) (g .stored) (g .listed + 1) (g .tested + 1) (g .learned) (g .unkept) u)) judged
+        → NextIs q queue store (set codes (g .listed) (node .code)) (put (stateBytes * g .listed) bytes values) (After.More (progress (g .queued) (g .stored) (g .listed + 1) (g .tested + 1) (g .learned) (g .unkept) u)) judged
     unfolding judge shownBy
     judge-listed {f} {u} {bytes} full e s =
-        let o = orderOf (q .plant) in
+        let o = orderIn q in
         let b : best (o .preferred) (t .parent) ≡ valueList (t .parent) =
-        full-best (decisionSizes (q .plant)) (o .preferred) (t .parent) (cost-lawful (q .plant) few (t .is .accepted .decision-sizes) .preferred) (t .is .valid) full in
+        full-best (decisionSizes (q .plant)) (o .preferred) (t .parent) (edition-lawful weighed (q .plant) (t .is .accepted) .preferred) (t .is .valid) full in
         rw (judge, lt-ltb (t .state .tested) mostTested below, counted (consistent f u) e) record {
           holds = t .turn .standing .holds;
           room = t .turn .standing .room;
@@ -249,8 +238,6 @@ module _ {q : Question} {limit : ℕ} {queue store codes costs values : List ℕ
             keeps = written .keeps;
             codes-are = written-more code (t .state .listed) (valueList (t .parent)) (q .codes) codes (g .listed) (node .code) (written .codes-are) (written .listed-is)
                 (t .is .code-is ∙ ap code b) (omega (arith, t .wanting, t .turn .codes-room));
-            costs-are = written-more (o .figure) (t .state .listed) (valueList (t .parent)) (q .costs) costs (g .listed) (node .cost) (written .costs-are) (written .listed-is)
-                (t .is .cost-is ∙ ap (o .figure) b) (omega (arith, t .wanting, t .turn .costs-room));
             values-are = values-more (t .state .shown) f (q .values) values bytes (g .listed) (length (t .state .listed)) (written .values-are) shown-so-far (written .listed-is) (s ∙ ap shownBy e);
             listed-is = simp length-append (omega (arith, written .listed-is));
             tested-is = omega (arith, written .tested-is);

@@ -18,13 +18,12 @@ ghost use mathlib.Core.List.{List};
 ghost use Prim.Native.Nat.{ℕ, _+_, _*_, _/_, _≤_, _<_};
 ghost use lib.ListN.{length};
 ghost use Rattle.model.specs.Assignment.{isFull};
-ghost use Rattle.model.specs.Order.{orderOf};
 ghost use Rattle.model.specs.Calls.{stateBytes};
 ghost use Rattle.model.specs.Listing.{mostTested, learn, judge};
 ghost use Rattle.theory.specs.Tables.{Tabled};
 ghost use Rattle.conflict.specs.Given.{Ready};
 ghost use Rattle.plan.specs.Plans.{planWords};
-ghost use Rattle.judge.specs.Standing.{Question, Removed, CanCount, counted, ListedOne, NextIs};
+ghost use Rattle.judge.specs.Standing.{Question, orderIn, Removed, CanCount, counted, ListedOne, NextIs};
 
 // How far a run is: the entries of queue and store, the states listed, and the counts.
 pub struct Progress {
@@ -74,6 +73,7 @@ fn learn(
     sat: &Sat,
     uses: &[u64],
     plan: &mut Plan,
+    weighed: bool,
     queue: &mut [u64],
     store: &mut [u64],
     g: Progress,
@@ -82,10 +82,10 @@ fn learn(
     limit: u32,
 ) -> Next
     requires { ⌜ Ready d (now sizes) (now counts) (now lits) (now sat) (now uses) (now plan) × CanCount g × (2 * g .queued ≤ length (now queue)) ⌝ }
-    ensures answer { λ r. ⌜ ((q : Question) (prices codes costs values : List ℕ) → Tabled (q .plant) d (now (sizes .entry)) prices (now (counts .entry)) (now (lits .entry))
-        → (t : Removed q limit (now (queue .entry)) (now (store .entry)) codes costs values g node)
-        → NextIs q (now (queue .exit)) (now (store .exit)) codes costs values r
-        (learn (q .plant) (orderOf (q .plant)) (q .wanted) (length (now (queue .entry)) / 2) (length (now (store .entry)) / 2) limit (t .state) (t .rest) (t .parent) trials)) ⌝ }
+    ensures answer { λ r. ⌜ ((q : Question weighed) (prices codes values : List ℕ) → Tabled (q .plant) d (now (sizes .entry)) prices (now (counts .entry)) (now (lits .entry))
+        → (t : Removed q limit (now (queue .entry)) (now (store .entry)) codes values g node)
+        → NextIs q (now (queue .exit)) (now (store .exit)) codes values r
+        (learn (q .plant) (orderIn q) (q .wanted) (length (now (queue .entry)) / 2) (length (now (store .entry)) / 2) limit (t .state) (t .rest) (t .parent) trials)) ⌝ }
     ensures long { λ _. ⌜ length (now (plan .exit)) ≡ planWords ⌝ }
 {
     if store.len() / 2 <= g.stored {
@@ -110,7 +110,7 @@ fn learn(
         Reduced::Spent(t) => Next::Ended(Ending::Spent, g.counted(t)),
         Reduced::Conflict(mask, values, t) => {
             let stored = subsumption::learn(store, g.stored, mask, values);
-            let left = queue::sieve(queue, g.queued, mask, values);
+            let left = queue::sieve(queue, g.queued, weighed, mask, values);
             Next::More(Progress {
                 queued: left,
                 stored,
@@ -124,19 +124,17 @@ fn learn(
 // Step 7 after a test that was consistent with so many trials: the node's state is listed, with the values that the test shows.
 fn list(
     codes: &mut [u64],
-    costs: &mut [u32],
     values: &mut [u8],
     g: Progress,
     node: Node,
     trials: u32,
     shown: &[u8; STATE_BYTES],
 ) -> Progress
-    requires { ⌜ CanCount g × (g .listed ≤ g .tested) × (g .listed < length (now codes)) × (g .listed < length (now costs)) × (stateBytes * g .listed + stateBytes ≤ length (now values)) ⌝ }
-    ensures { λ r. ⌜ ListedOne g node trials (now (shown .entry)) (now (codes .entry)) (now (costs .entry)) (now (values .entry)) (now (codes .exit)) (now (costs .exit)) (now (values .exit)) r ⌝ }
+    requires { ⌜ CanCount g × (g .listed ≤ g .tested) × (g .listed < length (now codes)) × (stateBytes * g .listed + stateBytes ≤ length (now values)) ⌝ }
+    ensures { λ r. ⌜ ListedOne g node trials (now (shown .entry)) (now (codes .entry)) (now (values .entry)) (now (codes .exit)) (now (values .exit)) r ⌝ }
 {
     let at = g.listed as usize;
     codes[at] = node.code;
-    costs[at] = node.cost;
     put_bytes(values, STATE_BYTES * at, shown);
     Progress {
         listed: g.listed + 1,
@@ -153,8 +151,8 @@ pub fn judge(
     sat: &Sat,
     uses: &[u64],
     plan: &mut Plan,
+    weighed: bool,
     codes: &mut [u64],
-    costs: &mut [u32],
     values: &mut [u8],
     queue: &mut [u64],
     store: &mut [u64],
@@ -162,11 +160,11 @@ pub fn judge(
     node: Node,
     limit: u32,
 ) -> Next
-    requires { ⌜ Ready d (now sizes) (now counts) (now lits) (now sat) (now uses) (now plan) × ((q : Question) × Removed q limit (now queue) (now store) (now codes) (now costs) (now values) g node) ⌝ }
-    ensures answer { λ r. ⌜ ((q : Question) (prices : List ℕ) → Tabled (q .plant) d (now (sizes .entry)) prices (now (counts .entry)) (now (lits .entry))
-        → (t : Removed q limit (now (queue .entry)) (now (store .entry)) (now (codes .entry)) (now (costs .entry)) (now (values .entry)) g node) → isFull (t .parent) ≡ true
-        → NextIs q (now (queue .exit)) (now (store .exit)) (now (codes .exit)) (now (costs .exit)) (now (values .exit)) r
-        (judge (q .plant) (orderOf (q .plant)) (q .wanted) (length (now (queue .entry)) / 2) (length (now (store .entry)) / 2) limit (t .state) (t .rest) (t .parent))) ⌝ }
+    requires { ⌜ Ready d (now sizes) (now counts) (now lits) (now sat) (now uses) (now plan) × ((q : Question weighed) × Removed q limit (now queue) (now store) (now codes) (now values) g node) ⌝ }
+    ensures answer { λ r. ⌜ ((q : Question weighed) (prices : List ℕ) → Tabled (q .plant) d (now (sizes .entry)) prices (now (counts .entry)) (now (lits .entry))
+        → (t : Removed q limit (now (queue .entry)) (now (store .entry)) (now (codes .entry)) (now (values .entry)) g node) → isFull (t .parent) ≡ true
+        → NextIs q (now (queue .exit)) (now (store .exit)) (now (codes .exit)) (now (values .exit)) r
+        (judge (q .plant) (orderIn q) (q .wanted) (length (now (queue .entry)) / 2) (length (now (store .entry)) / 2) limit (t .state) (t .rest) (t .parent))) ⌝ }
     ensures long { λ _. ⌜ length (now (plan .exit)) ≡ planWords ⌝ }
 {
     if g.tested == MOST_TESTED {
@@ -197,6 +195,7 @@ pub fn judge(
             sat,
             uses,
             plan,
+            weighed,
             queue,
             store,
             g,
@@ -204,6 +203,6 @@ pub fn judge(
             t,
             limit,
         ),
-        Answer::Consistent(t) => Next::More(list(codes, costs, values, g, node, t, &shown)),
+        Answer::Consistent(t) => Next::More(list(codes, values, g, node, t, &shown)),
     }
 }

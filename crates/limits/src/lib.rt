@@ -2,8 +2,10 @@
 // largest plant stand with those tables. The definitions have the same names: `mostListed` is MOST_LISTED.
 ghost use mathlib.Core.Path.{_≡_};
 
-// Decision variables.
+// Decision variables, and those of a sheet whose figures are weights.
 pub const DECISIONS: usize = 16;
+
+pub const WEIGHED_DECISIONS: usize = 8;
 
 // Decision and state variables together.
 pub const VARIABLES: usize = 48;

@@ -2,7 +2,7 @@
 use mathlib.Core.Path.{_≡_, refl}
 use mathlib.Core.Bool.{Bool, true, false, not, _&&_, _||_}
 use mathlib.Core.Option.{none, some}
-use Prim.Native.Nat.{ℕ, _*_, _/_}
+use Prim.Native.Nat.{ℕ, _*_, _/_, _≤_}
 use native.Mathlib.Omega.{arith}
 use borrow.Author.Tests.{ltb-false}
 use lib.Dec.{ltb, leb}
@@ -114,7 +114,7 @@ module _ (k : ℕ) (b : Buffers) (held : ℕ) (short : Bool) (h : 0 ≡ groundNu
   fit = rw (hostGrounds, free .count, free .list, free .values, free .queue, free .store)
 
   -- there is room for what the run needs
-  pub room-of : Room k held b
+  pub room-of : Room k held (b .codes) (b .values) (b .queue) (b .store)
   room-of =
       let l = or-neither (ltb (length (b .codes)) k || ltb (length (b .costs)) k) short (free .list) in
       let m = or-neither (ltb (length (b .codes)) k) (ltb (length (b .costs)) k) (l .0) in
@@ -123,8 +123,13 @@ module _ (k : ℕ) (b : Buffers) (held : ℕ) (short : Bool) (h : 0 ≡ groundNu
       let s = or-neither (odd (length (b .store)) || ltb mostWords (length (b .store))) (ltb (length (b .store) / 2) held) (free .store) in
       record {
         codes-room = ltb-false _ _ (m .0);
-        costs-room = ltb-false _ _ (m .1);
         values-room = ltb-false _ _ (free .values);
         queue-room = ltb-false _ _ (r .1);
         store-room = omega (arith, ltb-false (length (b .store) / 2) held (s .1));
       }
+
+  -- and for the figures
+  pub figures-room : k ≤ length (b .costs)
+  figures-room =
+      let l = or-neither (ltb (length (b .codes)) k || ltb (length (b .costs)) k) short (free .list) in
+      ltb-false _ _ (or-neither (ltb (length (b .codes)) k) (ltb (length (b .costs)) k) (l .0) .1)

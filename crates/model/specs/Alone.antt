@@ -8,7 +8,7 @@ use Rattle.model.specs.Conflict.{Reduced, conflict, ReducedAlone, nothin
 use Rattle.model.specs.Calls.{byHost, byAuthor, Answered, refused, answered, wordGrounds, onWords, testCall, reduceCall}
 use Rattle.model.specs.Examples.{call, tail, small, emptyClause, both, selector}
 use Rattle.model.specs.Edges.{second, oneOfSix, stateOfSixteen}
-use Rattle.model.specs.Refusals.{edition2}
+use Rattle.model.specs.Refusals.{otherEdition}
 
 -- decision variables of two and of three values, state variables of three and of two; the clauses: 2≠0 or 1=1; 3=1 or 2=2; 0=1 or 2=1; 1≠2 or 3≠1
 unfoldable pub mixed : List ℕ
@@ -52,7 +52,7 @@ tests =
     ∷ testCall small 0 1 1000
     -- 14 and 15; a bad sheet with bad words
     ∷ testCall small 0x2000000000000000 1 1000
-    ∷ testCall edition2 0x2000000000000000 1 1000
+    ∷ testCall otherEdition 0x2000000000000000 1 1000
     ∷ []
 
 pub tests-are : tests ≡
@@ -80,7 +80,7 @@ pub tests-are : tests ≡
     ∷ refused (byHost 14)
     ∷ refused (byAuthor 6)
     ∷ []
-unfolding tests call tail small emptyClause edition2 mixed oneOfSix stateOfSixteen testCall onWords wordGrounds
+unfolding tests call tail small emptyClause otherEdition mixed oneOfSix stateOfSixteen testCall onWords wordGrounds
 tests-are = refl
 
 -- ---- the reduction
@@ -107,7 +107,7 @@ reductions =
     -- refusals
     ∷ reduceCall small 0x2000000000000000 1 1000
     ∷ reduceCall small selector 0x2000000000000000 1000
-    ∷ reduceCall edition2 0x2000000000000000 1 1000
+    ∷ reduceCall otherEdition 0x2000000000000000 1 1000
     ∷ []
 
 pub reductions-are : reductions ≡
@@ -125,5 +125,5 @@ pub reductions-are : reductions ≡
     ∷ refused (byHost 15)
     ∷ refused (byAuthor 6)
     ∷ []
-unfolding reductions call tail small emptyClause edition2 mixed oneOfSix reduceCall onWords wordGrounds reduceAlone
+unfolding reductions call tail small emptyClause otherEdition mixed oneOfSix reduceCall onWords wordGrounds reduceAlone
 reductions-are = refl

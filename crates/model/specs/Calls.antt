@@ -6,7 +6,7 @@ use Prim.Native.Nat.{ℕ, zero, suc, _-_, _*_, _/_, _%_}
 use lib.Dec.{ltb, leb, eqb}
 use lib.ListN.{length, replicate, take, drop}
 use Rattle.model.specs.Lists.{filled, inTurn}
-use Rattle.model.specs.Sheet.{Plant, Read, got, Edition, edition1, readSheet, decisionSizes}
+use Rattle.model.specs.Sheet.{Plant, Read, got, Edition, edition1, edition2, readSheet, readEither, decisionSizes}
 use Rattle.model.specs.Assignment.{Assignment, maskOf, valuesOf, assignmentOf, maskFits, valuesFit, code}
 use Rattle.model.specs.Consistency.{Tested, consistent, inconsistent, test}
 use Rattle.model.specs.Conflict.{Reduced, conflict, ReducedAlone, nothing, reduced, reduceAlone}
@@ -59,14 +59,14 @@ shownBy (Tested.spent t) = replicate stateBytes 0
 unfoldable pub wordGrounds : List ℕ → ℕ → ℕ → List Ground
 wordGrounds domains mask values = ground (not (maskFits domains mask)) 14 ∷ ground (not (valuesFit domains mask values)) 15 ∷ []
 
--- a call on a sheet and two words: the sheet's refusal, then the words', then what the assignment answers
+-- a call on a sheet of either edition and two words: the sheet's refusal, then the words', then what the assignment answers
 pub data Answered (A : Type 0) : Type 0 where
   refused : Refusal → Answered A
   answered : A → Answered A
 
-unfoldable pub onWords : {A : Type 0} → Edition → List ℕ → ℕ → ℕ → (Plant → Assignment → A) → Answered A
-onWords e sheet mask values ask =
-    elim (readSheet e sheet) [
+unfoldable pub onWords : {A : Type 0} → List ℕ → ℕ → ℕ → (Plant → Assignment → A) → Answered A
+onWords sheet mask values ask =
+    elim (readEither sheet) [
       | Read.refused n ↦ refused (byAuthor n)
       | got p end ↦ elim (firstGiven (wordGrounds (decisionSizes p) mask values)) [
         | some n ↦ refused (byHost n)
@@ -76,15 +76,15 @@ onWords e sheet mask values ask =
 
 -- the test call
 unfoldable pub testCall : List ℕ → ℕ → ℕ → ℕ → Answered Tested
-testCall sheet mask values limit = onWords edition1 sheet mask values (λ p a. test p limit a 0)
+testCall sheet mask values limit = onWords sheet mask values (λ p a. test p limit a 0)
 
 -- the reduce call; a conflict is answered by its two words
 unfoldable pub reduceCall : List ℕ → ℕ → ℕ → ℕ → Answered ReducedAlone
-reduceCall sheet mask values limit = onWords edition1 sheet mask values (λ p a. reduceAlone p limit a)
+reduceCall sheet mask values limit = onWords sheet mask values (λ p a. reduceAlone p limit a)
 
 -- ---- the listing
 
--- the lent buffers of a listing, as words, and the values as bytes
+-- the lent buffers of a listing, as words, and the values as bytes; of edition 2's call products stand where costs do
 pub record Buffers : Type 0 where
   pub codes : List ℕ
   pub costs : List ℕ
@@ -180,27 +180,31 @@ calledOf o b (ended e s) = record { answer = answered (ran e (countsOf s)); afte
 calledOf o b (more s) = record { answer = answered unfinished; after = b; struck = false }
 
 -- the run of an accepted call
-unfoldable pub runOf : Plant → ℕ → Buffers → ℕ → ℕ → Next
-runOf p k b held limit = listing p (orderOf p) k (length (b .queue) / 2) (length (b .store) / 2) (offersOf held (b .store)) limit
+unfoldable pub runOf : Plant → Order → ℕ → Buffers → ℕ → ℕ → Next
+runOf p o k b held limit = listing p o k (length (b .queue) / 2) (length (b .store) / 2) (offersOf held (b .store)) limit
 
 -- a refusal changes no lent buffer
 abbrev pub refusing : Buffers → Refusal → Called
 refusing b r = record { answer = refused r; after = b; struck = false }
 
--- the listing call, with `resultShort` as in the host's refusals
-unfoldable pub listingWith : List ℕ → ℕ → Buffers → ℕ → ℕ → Bool → Called
-listingWith sheet k b held limit resultShort =
+-- the listing call that takes this edition, with `resultShort` as in the host's refusals
+unfoldable pub listingWith : Edition → List ℕ → ℕ → Buffers → ℕ → ℕ → Bool → Called
+listingWith e sheet k b held limit resultShort =
     elim (firstGiven (hostGrounds k b held resultShort)) [
       | some n ↦ refusing b (byHost n)
-      | none ↦ elim (readSheet edition1 sheet) [
+      | none ↦ elim (readSheet e sheet) [
         | Read.refused n ↦ refusing b (byAuthor n)
-        | got p end ↦ calledOf (orderOf p) b (runOf p k b held limit)
+        | got p end ↦ calledOf (orderOf e p) b (runOf p (orderOf e p) k b held limit)
       ]
     ]
 
 -- the listing call
 unfoldable pub listingCall : List ℕ → ℕ → Buffers → ℕ → ℕ → Called
-listingCall sheet k b held limit = listingWith sheet k b held limit false
+listingCall sheet k b held limit = listingWith edition1 sheet k b held limit false
+
+-- the listing call that takes edition 2: products stand in the buffer for costs
+unfoldable pub weightsCall : List ℕ → ℕ → Buffers → ℕ → ℕ → Called
+weightsCall sheet k b held limit = listingWith edition2 sheet k b held limit false
 
 -- ---- the export to C
 
@@ -226,10 +230,17 @@ exportedOf result b (refused r) = record { returned = refusalNumber r; after = b
 exportedOf result b (answered (ran e c)) = record { returned = 0; after = b; result = filled (resultWords e c) result }
 exportedOf result b (answered unfinished) = record { returned = 0; after = b; result = result }
 
-unfoldable pub exportCall : List ℕ → ℕ → Buffers → ℕ → ℕ → List ℕ → Exported
-exportCall sheet k b held limit result =
-    let called : Called = listingWith sheet k b held limit (ltb (length result) 6) in
+-- the export of the listing call that takes this edition
+unfoldable pub exportWith : Edition → List ℕ → ℕ → Buffers → ℕ → ℕ → List ℕ → Exported
+exportWith e sheet k b held limit result =
+    let called : Called = listingWith e sheet k b held limit (ltb (length result) 6) in
     exportedOf result (called .after) (called .answer)
+
+unfoldable pub exportCall : List ℕ → ℕ → Buffers → ℕ → ℕ → List ℕ → Exported
+exportCall sheet k b held limit result = exportWith edition1 sheet k b held limit result
+
+unfoldable pub weightsExport : List ℕ → ℕ → Buffers → ℕ → ℕ → List ℕ → Exported
+weightsExport sheet k b held limit result = exportWith edition2 sheet k b held limit result
 
 -- ---- the exports of the test and the reduction
 

@@ -7,7 +7,7 @@ use Rattle.model.specs.Lists.{place, placeAll}
 use Rattle.model.specs.Digits.{number}
 use Rattle.model.specs.Sheet.{Plant, Read, edition1, readSheet}
 use Rattle.model.specs.Consistency.{holdsAt, literalHolds, clauseHolds, allHold}
-use Rattle.model.specs.Order.{costThenCode, orderOf, isConsistent, leadingStates, wholeSet}
+use Rattle.model.specs.Order.{before, orderOf, isConsistent, leadingStates, wholeSet}
 use Rattle.model.specs.Listing.{Ending, enough, all, full, Next, ended, more, listing}
 use Rattle.model.specs.Examples.{Settings, Row, _gives_, lists, shows, strikes, call, answers, expected, plain, tail, small, both, selector, three, asP1}
 
@@ -297,7 +297,7 @@ listedOf (more s) = []
 
 unfoldable pub wideRun : List (List ℕ)
 unfolding call
-wideRun = listedOf (listing wide (orderOf wide) 3 4096 64 [] 1000)
+wideRun = listedOf (listing wide (orderOf edition1 wide) 3 4096 64 [] 1000)
 
 pub wide-run : wideRun ≡ replicate 16 0 ∷ (replicate 15 0 ++ (1 ∷ [])) ∷ (replicate 15 0 ++ (2 ∷ [])) ∷ []
 unfolding wideRun call wide listedOf
@@ -323,7 +323,7 @@ pub small-read : readSmall ≡ Read.got smallPlant 160
 unfolding readSmall call tail small smallPlant
 small-read = refl
 
-pub small-whole : wholeSet smallPlant (orderOf smallPlant) ≡
+pub small-whole : wholeSet smallPlant (orderOf edition1 smallPlant) ≡
     record { code = 0x0100000000000000; figure = 3 } ∷ record { code = 0x1000000000000000; figure = 3 } ∷ record { code = 0x1100000000000000; figure = 6 } ∷ []
-unfolding wholeSet leadingStates place placeAll isConsistent allHold clauseHolds literalHolds holdsAt smallPlant orderOf costThenCode number
+unfolding wholeSet leadingStates place placeAll isConsistent allHold clauseHolds literalHolds holdsAt smallPlant edition1 orderOf before number
 small-whole = refl

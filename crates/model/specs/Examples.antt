@@ -6,11 +6,11 @@ use Prim.Native.Nat.{ℕ, _*_, _-_, _/_}
 use lib.ListN.{length, replicate}
 use Rattle.model.specs.Lists.{inTurn, place, placeAll}
 use Rattle.model.specs.Digits.{number, digits}
-use Rattle.model.specs.Sheet.{bitAt, bitsAt, then, many, field, edition1, decisionsAllowed, readDecision, readState, readLiteral, readClause, readFiller, readEnd, readBody, readSheet}
+use Rattle.model.specs.Sheet.{bitAt, bitsAt, then, many, field, edition1, edition2, decisionsAllowed, readFigure, readDecision, readState, readLiteral, readClause, readFiller, readEnd, readBody, readSheet, readEither}
 use Rattle.model.specs.Assignment.{assignmentOf, maskFits, valuesFit, wellFormed}
 use Rattle.model.specs.Consistency.{holdsAt, literalFails, clauseFalse, anyFalse, orElse, tryValues, explore, test}
 use Rattle.model.specs.Conflict.{reduceFrom, reduce}
-use Rattle.model.specs.Order.{costThenCode, orderOf}
+use Rattle.model.specs.Order.{before, orderOf}
 use Rattle.model.specs.Listing.{Ending, enough, all, full, checkOffers, putChildren, learn, judge, expand, remove, step, run, start, enoughSteps, listing}
 use Rattle.model.specs.Calls.{Refusal, byAuthor, firstGiven, refused, answered, Buffers, Counts, ran, Called, hostGrounds, offersOf, stateBytes, valueBytes, entryWords, buffersAfter, calledOf, runOf, listingWith, listingCall}
 
@@ -59,8 +59,8 @@ lent s = record {
 -- whoever unfolds this unfolds every definition of the listing
 unfoldable pub call : Settings → Called
 unfolding lent
-    number digits bitAt bitsAt then many field edition1 decisionsAllowed readDecision readState readLiteral readClause readFiller readEnd readBody readSheet
-    assignmentOf maskFits valuesFit wellFormed holdsAt literalFails clauseFalse anyFalse orElse tryValues explore test reduceFrom reduce costThenCode orderOf
+    number digits bitAt bitsAt then many field edition1 edition2 decisionsAllowed readFigure readDecision readState readLiteral readClause readFiller readEnd readBody readSheet readEither
+    assignmentOf maskFits valuesFit wellFormed holdsAt literalFails clauseFalse anyFalse orElse tryValues explore test reduceFrom reduce before orderOf
     checkOffers place placeAll putChildren learn judge expand remove step run start enoughSteps listing
     firstGiven hostGrounds offersOf valueBytes entryWords buffersAfter calledOf runOf listingWith listingCall
 call s = listingCall (s .sheet) (s .k) (lent s) (s .held) (s .limit)

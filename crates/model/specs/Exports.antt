@@ -5,11 +5,11 @@ use Prim.Native.Nat.{ℕ}
 use lib.ListN.{replicate}
 use Rattle.model.specs.Conflict.{reduceAlone}
 use Rattle.model.specs.Listing.{enough, all, full}
-use Rattle.model.specs.Calls.{byHost, byAuthor, Called, shownBy, wordGrounds, onWords, testCall, reduceCall, Exported, exportedOf, exportCall, testExport, reduceExport}
+use Rattle.model.specs.Calls.{byHost, byAuthor, Called, shownBy, wordGrounds, onWords, testCall, reduceCall, Exported, exportedOf, exportWith, exportCall, testExport, reduceExport}
 use Rattle.model.specs.Examples.{Settings, Row, _gives_, refusal, lists, strikes, call, lent, ranWith, whole, plain, tail, small, emptyClause, both, selector, three, asP1}
 use Rattle.model.specs.Edges.{second}
 use Rattle.model.specs.Alone.{mixed}
-use Rattle.model.specs.Refusals.{edition2, lengths, valuesOf}
+use Rattle.model.specs.Refusals.{otherEdition, lengths, valuesOf}
 
 -- ---- the listing
 
@@ -25,7 +25,7 @@ exporting row lentResult returned result = record { row = row; lentResult = lent
 
 -- the export of a call with these lent result words
 unfoldable pub exportOf : Settings → List ℕ → Exported
-unfolding call exportCall exportedOf
+unfolding call exportWith exportCall exportedOf
 exportOf s result = exportCall (s .sheet) (s .k) (lent s) (s .held) (s .limit) result
 
 unfoldable pub exported : List ExportRow → List Exported
@@ -54,6 +54,8 @@ exports =
     ∷ exporting (plain small 3 8 4 [] 1000 gives asP1) (nines 6) 0 (2 ∷ 3 ∷ 4 ∷ 1 ∷ 0 ∷ 15 ∷ [])
     ∷ exporting (plain small 16 2 4 [] 1000 gives lists full [] [] [] 0 0 0 0) (nines 6) 0 (3 ∷ 0 ∷ 0 ∷ 0 ∷ 0 ∷ 0 ∷ [])
     ∷ exporting (plain small 16 8 4 [] 5 gives strikes [] [] [] 1 0 0 5) (nines 6) 0 (4 ∷ 0 ∷ 1 ∷ 0 ∷ 0 ∷ 5 ∷ [])
+    -- a conflict is offered
+    ∷ exporting (plain small 16 8 4 (both ∷ 0 ∷ []) 1000 gives lists all three (3 ∷ 3 ∷ 6 ∷ []) (both ∷ 0 ∷ []) 3 0 0 5) (nines 6) 0 (2 ∷ 3 ∷ 3 ∷ 0 ∷ 0 ∷ 5 ∷ [])
     -- conflicts that are not kept
     ∷ exporting (plain small 16 8 0 [] 1000 gives lists all three (3 ∷ 3 ∷ 6 ∷ []) [] 4 0 1 5) (nines 8) 0 (2 ∷ 3 ∷ 4 ∷ 0 ∷ 1 ∷ 5 ∷ 9 ∷ 9 ∷ [])
     -- fewer than six result words: 2, and nothing is written
@@ -61,7 +63,7 @@ exports =
     ∷ exporting (plain small 16 8 4 [] 1000 gives refusal (byHost 2)) [] 2 []
     -- it comes after k, and before the queue and the sheet
     ∷ exporting (lengths small 0 16 16 8 8 0 gives refusal (byHost 1)) (nines 5) 1 (nines 5)
-    ∷ exporting (lengths edition2 16 16 16 7 7 0 gives refusal (byHost 2)) (nines 5) 2 (nines 5)
+    ∷ exporting (lengths otherEdition 16 16 16 7 7 0 gives refusal (byHost 2)) (nines 5) 2 (nines 5)
     -- also before the values
     ∷ exporting (valuesOf 767 (lengths small 16 16 16 8 8 0) gives refusal (byHost 2)) (nines 5) 2 (nines 5)
     -- the host's other refusals and the author's, with words enough: nothing is written
@@ -69,11 +71,11 @@ exports =
     ∷ exporting (valuesOf 767 (lengths small 16 16 16 7 8 0) gives refusal (byHost 19)) (nines 6) 19 (nines 6)
     ∷ exporting (lengths small 16 16 16 7 8 0 gives refusal (byHost 3)) (nines 6) 3 (nines 6)
     ∷ exporting (lengths small 16 16 16 8 7 0 gives refusal (byHost 4)) (nines 6) 4 (nines 6)
-    ∷ exporting (plain edition2 16 8 4 [] 1000 gives refusal (byAuthor 6)) (nines 7) 6 (nines 7)
+    ∷ exporting (plain otherEdition 16 8 4 [] 1000 gives refusal (byAuthor 6)) (nines 7) 6 (nines 7)
     ∷ []
 
 pub exports-are : exported exports ≡ exportWanted exports
-unfolding exports exported exportWanted exportOf plain lengths valuesOf tail small edition2 three asP1
+unfolding exports exported exportWanted exportOf plain lengths valuesOf tail small otherEdition three asP1
 exports-are = refl
 
 -- ---- the test and the reduction
@@ -88,10 +90,10 @@ testExports =
     ∷ testExport small both 0 1 (nines 48) (7 ∷ 8 ∷ [])
     -- too short a buffer: nothing is shown, also where the test is consistent, and it comes before the sheet
     ∷ testExport small selector 0x1000000000000000 1000 (nines 48) (7 ∷ [])
-    ∷ testExport edition2 0 0 1000 (nines 48) (7 ∷ [])
+    ∷ testExport otherEdition 0 0 1000 (nines 48) (7 ∷ [])
     -- the host's refusal and the author's
     ∷ testExport small 0x2000000000000000 1 1000 (nines 48) (7 ∷ 8 ∷ [])
-    ∷ testExport edition2 0 0 1000 (nines 48) (7 ∷ 8 ∷ [])
+    ∷ testExport otherEdition 0 0 1000 (nines 48) (7 ∷ 8 ∷ [])
     ∷ []
 
 pub testExports-are : testExports ≡
@@ -104,7 +106,7 @@ pub testExports-are : testExports ≡
     ∷ (14, nines 48, 7 ∷ 8 ∷ [])
     ∷ (6, nines 48, 7 ∷ 8 ∷ [])
     ∷ []
-unfolding testExports call tail small mixed edition2 testCall onWords wordGrounds shownBy testExport
+unfolding testExports call tail small mixed otherEdition testCall onWords wordGrounds shownBy testExport
 testExports-are = refl
 
 unfoldable pub reduceExports : List (ℕ × List ℕ × List ℕ)
@@ -116,11 +118,11 @@ reduceExports =
     ∷ reduceExport small both 0 4 (4 ∷ 5 ∷ []) (7 ∷ 8 ∷ [])
     ∷ reduceExport emptyClause both 0 1000 (4 ∷ 5 ∷ []) (7 ∷ 8 ∷ [])
     -- too short a buffer for the conflict, and for the result
-    ∷ reduceExport edition2 0 0 1000 (4 ∷ []) (7 ∷ 8 ∷ [])
-    ∷ reduceExport edition2 0 0 1000 (4 ∷ 5 ∷ []) (7 ∷ [])
+    ∷ reduceExport otherEdition 0 0 1000 (4 ∷ []) (7 ∷ 8 ∷ [])
+    ∷ reduceExport otherEdition 0 0 1000 (4 ∷ 5 ∷ []) (7 ∷ [])
     -- the host's refusal and the author's
     ∷ reduceExport small selector 0x2000000000000000 1000 (4 ∷ 5 ∷ []) (7 ∷ 8 ∷ [])
-    ∷ reduceExport edition2 0 0 1000 (4 ∷ 5 ∷ []) (7 ∷ 8 ∷ [])
+    ∷ reduceExport otherEdition 0 0 1000 (4 ∷ 5 ∷ []) (7 ∷ 8 ∷ [])
     ∷ []
 
 pub reduceExports-are : reduceExports ≡
@@ -133,5 +135,5 @@ pub reduceExports-are : reduceExports ≡
     ∷ (15, 4 ∷ 5 ∷ [], 7 ∷ 8 ∷ [])
     ∷ (6, 4 ∷ 5 ∷ [], 7 ∷ 8 ∷ [])
     ∷ []
-unfolding reduceExports call tail small emptyClause edition2 reduceCall onWords wordGrounds reduceAlone reduceExport
+unfolding reduceExports call tail small emptyClause otherEdition reduceCall onWords wordGrounds reduceAlone reduceExport
 reduceExports-are = refl

@@ -18,5 +18,7 @@ pub mod Shown
 pub mod Stores
 pub mod Exports
 pub mod Parts
+pub mod Weights
+pub mod WeightRefusals
 pub mod TableExamples
 pub mod TextExamples

@@ -10,7 +10,7 @@ use Rattle.model.specs.Sheet.{Plant, decisionSizes}
 use Rattle.model.specs.Assignment.{Assignment, wellFormed, assignmentOf, isFull, valueList}
 use Rattle.model.specs.Consistency.{Tested, consistent, inconsistent, test}
 use Rattle.model.specs.Conflict.{manifests, resolves, Reduced, conflict, reduce}
-use Rattle.model.specs.Order.{Order, best}
+use Rattle.model.specs.Order.{Order, before, best}
 
 -- ---- the state of a run
 
@@ -118,7 +118,7 @@ branching (s ∷ ss) (some x ∷ n) = map (λ m. some x ∷ m) (branching ss n)
 module _ (o : Order) where
   -- a node's best state comes before another's
   abbrev pub ahead : Assignment → Assignment → Bool
-  ahead n m = o .before (best (o .preferred) n) (best (o .preferred) m)
+  ahead n m = before o (best (o .preferred) n) (best (o .preferred) m)
 
   -- nodes are put into the queue, each at its place in the order of best states
   abbrev pub enqueue : Assignment → List Assignment → List Assignment

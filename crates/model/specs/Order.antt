@@ -1,4 +1,4 @@
--- Specification, "Assignments" and "Listing": cost, the order of full assignments, best states, and the whole set. Assumes nothing: these are definitions.
+-- Specification, "Assignments" and "Listing": costs and products of weights, the order of full assignments, best states, and the whole set. Assumes nothing: these are definitions.
 use mathlib.Core.Bool.{Bool, true, false, _&&_, _||_}
 use mathlib.Core.Option.{Option, none, some}
 use mathlib.Core.List.{List, [], _∷_, _++_, map}
@@ -6,48 +6,77 @@ use Prim.Native.Nat.{ℕ, zero, suc, _+_, _*_}
 use lib.Dec.{ltb, eqb, T}
 use lib.ListN.{length, getD}
 use Rattle.model.specs.Lists.{keep, anyOf, placeAll, valuesFrom}
-use Rattle.model.specs.Sheet.{Plant, decisionSizes, sizes}
+use Rattle.model.specs.Sheet.{Plant, Edition, decisionSizes, sizes}
 use Rattle.model.specs.Assignment.{Assignment, code, full}
 use Rattle.model.specs.Consistency.{allHold, overAll}
 
--- ---- an order of full assignments
+-- ---- figures of full assignments
 
--- what a listing asks of an order: each decision variable's best value, the figure listed beside a code, and which of two full assignments comes first
-pub record Order : Type 0 where
-  pub preferred : List ℕ
-  pub figure : List ℕ → ℕ
-  pub before : List ℕ → List ℕ → Bool
+-- whether a figure is better than another: of costs the lesser, of weights and their products the greater
+abbrev pub better : Bool → ℕ → ℕ → Bool
+better false a b = ltb a b
+better true a b = ltb b a
 
--- the cost of a full assignment: the sum of its costs, with a row of costs for each variable
+-- costs are added, weights are multiplied
+abbrev pub join : Bool → ℕ → ℕ → ℕ
+join false a b = a + b
+join true a b = a * b
+
+-- the cost of no variables, and their product
+abbrev pub unit : Bool → ℕ
+unit false = 0
+unit true = 1
+
+-- the figure of a full assignment, with a row of figures for each variable
+abbrev pub figureOf : Bool → List (List ℕ) → List ℕ → ℕ
+figureOf weighed [] f = unit weighed
+figureOf weighed (r ∷ rs) [] = unit weighed
+figureOf weighed (r ∷ rs) (x ∷ f) = join weighed (getD r x 0) (figureOf weighed rs f)
+
+-- its cost: the sum of its costs
 abbrev pub cost : List (List ℕ) → List ℕ → ℕ
-cost [] f = 0
-cost (r ∷ rs) [] = 0
-cost (r ∷ rs) (x ∷ f) = getD r x 0 + cost rs f
+cost = figureOf false
 
--- the order: cost, then code as a number
-unfoldable pub costThenCode : List (List ℕ) → List ℕ → List ℕ → Bool
-costThenCode rows f g = ltb (cost rows f) (cost rows g) || (eqb (cost rows f) (cost rows g) && ltb (code f) (code g))
+-- in edition 2 the product of its weights
+abbrev pub chance : List (List ℕ) → List ℕ → ℕ
+chance = figureOf true
 
--- the cheapest of the first n values of a row, the lowest on a tie
+-- the best of the first n values of a row: the cheapest, or the one of greatest weight; the lowest on a tie
 abbrev pub lower : Bool → ℕ → ℕ → ℕ
 lower true new old = new
 lower false new old = old
 
-abbrev pub cheapestOf : List ℕ → ℕ → ℕ
-cheapestOf row zero = 0
-cheapestOf row (suc n) = lower (ltb (getD row n 0) (getD row (cheapestOf row n) 0)) n (cheapestOf row n)
+abbrev pub bestOf : Bool → List ℕ → ℕ → ℕ
+bestOf weighed row zero = 0
+bestOf weighed row (suc n) = lower (better weighed (getD row n 0) (getD row (bestOf weighed row n) 0)) n (bestOf weighed row n)
 
--- a variable's cheapest value
+-- a variable's best value
+abbrev pub bestValue : Bool → List ℕ → ℕ
+bestValue weighed row = bestOf weighed row (length row)
+
+-- its cheapest value
 abbrev pub cheapest : List ℕ → ℕ
-cheapest row = cheapestOf row (length row)
+cheapest = bestValue false
 
--- the order of a plant's full assignments
-unfoldable pub orderOf : Plant → Order
-orderOf p = record { preferred = map cheapest (p .costs); figure = cost (p .costs); before = costThenCode (p .costs) }
+-- ---- an order of full assignments
+
+-- what a listing asks of an order: each decision variable's best value, the figure listed beside a code, and whether it is a product of weights
+pub record Order : Type 0 where
+  pub preferred : List ℕ
+  pub figure : List ℕ → ℕ
+  pub weighed : Bool
+
+-- which of two full assignments comes first: the better figure, then the lower code as a number
+unfoldable pub before : Order → List ℕ → List ℕ → Bool
+before o f g = better (o .weighed) (o .figure f) (o .figure g) || (eqb (o .figure f) (o .figure g) && ltb (code f) (code g))
+
+-- the order of a plant's full assignments: of edition 1 cost, then code; of edition 2 the greatest product, then code
+unfoldable pub orderOf : Edition → Plant → Order
+orderOf e p = record { preferred = map (bestValue (e .weighed)) (p .costs); figure = figureOf (e .weighed) (p .costs); weighed = e .weighed }
 
 -- f comes before g
 abbrev pub Before : Order → List ℕ → List ℕ → Type 0
-Before o f g = T (o .before f g)
+Before o f g = T (before o f g)
 
 -- ---- best state
 
@@ -96,9 +125,9 @@ isConsistent p a = anyOf (λ f. agrees f (overAll p a) && allHold f (p .clauses)
 
 -- all full consistent assignments, each once, in the order
 unfoldable pub leadingStates : Plant → Order → List (List ℕ)
-leadingStates p o = placeAll (o .before) (keep (λ f. isConsistent p (full f)) (every (decisionSizes p))) []
+leadingStates p o = placeAll (before o) (keep (λ f. isConsistent p (full f)) (every (decisionSizes p))) []
 
--- an entry of a list: a code with its cost
+-- an entry of a list: a code with its cost, or with its product
 pub record Entry : Type 0 where
   pub code : ℕ
   pub figure : ℕ

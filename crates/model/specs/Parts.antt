@@ -9,11 +9,11 @@ use lib.Dec.{ltb}
 use lib.ListN.{length, getD, set}
 use Rattle.model.specs.Lists.{Some, Mem, All, Pairs, Begins, place, placeAll}
 use Rattle.model.specs.Digits.{number}
-use Rattle.model.specs.Sheet.{Plant, sizes}
+use Rattle.model.specs.Sheet.{edition1, Plant, sizes}
 use Rattle.model.specs.Assignment.{Assignment, Fits, Valid, Agree, isSome}
 use Rattle.model.specs.Consistency.{Tested, test, holdsAt, literalHolds, clauseHolds, allHold, overAll, Satisfies, Consistent}
 use Rattle.model.specs.Conflict.{Conflict, Minimal, manifests, resolves}
-use Rattle.model.specs.Order.{Order, costThenCode, cheapest, best, product, every, orderOf, isConsistent, leadingStates, wholeSet}
+use Rattle.model.specs.Order.{Order, before, cheapest, best, product, every, orderOf, isConsistent, leadingStates, wholeSet}
 use Rattle.model.specs.Listing.{State, Ending, ended, resolving, branching, mostTested, spentInTest, judge}
 use Rattle.model.specs.Calls.{runList}
 use Rattle.model.specs.Edges.{smallPlant}
@@ -100,7 +100,7 @@ every-of = refl
 unfoldable pub crossed : Plant
 crossed = record { costs = (2 ∷ 0 ∷ []) ∷ (0 ∷ 2 ∷ 1 ∷ []) ∷ []; states = []; clauses = [] }
 
-pub crossed-whole : wholeSet crossed (orderOf crossed) ≡
+pub crossed-whole : wholeSet crossed (orderOf edition1 crossed) ≡
     record { code = 0x1000000000000000; figure = 0 }
     ∷ record { code = 0x1200000000000000; figure = 1 }
     ∷ record { code = 0x0000000000000000; figure = 2 }
@@ -108,7 +108,7 @@ pub crossed-whole : wholeSet crossed (orderOf crossed) ≡
     ∷ record { code = 0x0200000000000000; figure = 3 }
     ∷ record { code = 0x0100000000000000; figure = 4 }
     ∷ []
-unfolding wholeSet leadingStates place placeAll isConsistent allHold clauseHolds literalHolds holdsAt crossed orderOf costThenCode number
+unfolding wholeSet leadingStates place placeAll isConsistent allHold clauseHolds literalHolds holdsAt crossed edition1 orderOf before number
 crossed-whole = refl
 
 -- a run's list: the codes with their costs, as many as listed says

@@ -9,7 +9,7 @@ use Rattle.model.specs.Examples.{Settings, Row, _gives_, refusal, answer
 
 -- ---- sheets
 
--- the small plant with an absent variable, with a value outside its domain, with a byte more, and of edition 2
+-- the small plant with an absent variable, with a value outside its domain, with a byte more, and of another edition
 unfoldable pub absentVariable : List ℕ
 absentVariable = 0x01 ∷ 0x10 ∷ 0x20 ∷ 0x10 ∷ 0x80 ∷ 0x00 ∷ 0x00 ∷ 0x01 ∷ 0x88 ∷ 0x00 ∷ 0x00 ∷ 0x00 ∷ 0x18 ∷ 0x98 ∷ 0x10 ∷ 0x06 ∷ 0x01 ∷ 0x84 ∷ 0x42 ∷ 0x00 ∷ []
 
@@ -19,12 +19,12 @@ valueOutside = 0x01 ∷ 0x10 ∷ 0x20 ∷ 0x10 ∷ 0x80 ∷ 0x00 ∷ 0x00 ∷ 0x
 unfoldable pub longer : List ℕ
 longer = small ++ (0x00 ∷ [])
 
-unfoldable pub edition2 : List ℕ
-edition2 = 0x02 ∷ 0x10 ∷ 0x20 ∷ 0x10 ∷ tail ++ (0x00 ∷ [])
+unfoldable pub otherEdition : List ℕ
+otherEdition = 0x03 ∷ 0x10 ∷ 0x20 ∷ 0x10 ∷ tail ++ (0x00 ∷ [])
 
 -- the edition is wrong, and 17 decision variables
-unfoldable pub edition2And17 : List ℕ
-edition2And17 = 0x02 ∷ 0x88 ∷ 0x20 ∷ 0x10 ∷ tail ++ (0x00 ∷ [])
+unfoldable pub otherEditionAnd17 : List ℕ
+otherEditionAnd17 = 0x03 ∷ 0x88 ∷ 0x20 ∷ 0x10 ∷ tail ++ (0x00 ∷ [])
 
 -- the small plant with this last byte: its three lowest bits are the filler
 unfoldable pub endingIn : ℕ → List ℕ
@@ -111,7 +111,7 @@ allowed-are = refl
 unfoldable pub authors : List Row
 authors =
     -- the edition
-    plain edition2 16 8 4 [] 1000 gives refusal (byAuthor 6)
+    plain otherEdition 16 8 4 [] 1000 gives refusal (byAuthor 6)
     -- D 17; S 33; C 513
     ∷ plain seventeen 16 8 4 [] 1000 gives refusal (byAuthor 7)
     ∷ plain (0x01 ∷ 0x14 ∷ 0x20 ∷ 0x08 ∷ []) 16 8 4 [] 1000 gives refusal (byAuthor 8)
@@ -131,7 +131,7 @@ authors =
     ∷ []
 
 pub authors-are : answers authors ≡ expected authors
-unfolding authors answers expected plain tail small edition2 seventeen absentVariable valueOutside endingIn longer
+unfolding authors answers expected plain tail small otherEdition seventeen absentVariable valueOutside endingIn longer
 authors-are = refl
 
 -- the small plant's first n bytes, for each n below all of them: 5
@@ -154,14 +154,14 @@ doubles =
     ∷ lengths small 4097 16 17 8 8 0 gives refusal (byHost 1)
     ∷ lengths small 17 16 17 7 7 9 gives refusal (byHost 2)
     ∷ lengths small 16 16 16 7 7 9 gives refusal (byHost 3)
-    ∷ lengths edition2 16 16 16 8 7 0 gives refusal (byHost 4)
+    ∷ lengths otherEdition 16 16 16 8 7 0 gives refusal (byHost 4)
     ∷ valuesOf 0 (lengths small 0 0 0 8 8 0) gives refusal (byHost 1)
     ∷ valuesOf 196655 (lengths small 4097 4097 4097 8 8 0) gives refusal (byHost 1)
     ∷ valuesOf 767 (lengths small 16 15 16 8 8 0) gives refusal (byHost 2)
     ∷ valuesOf 767 (lengths small 16 16 16 7 7 9) gives refusal (byHost 19)
-    ∷ valuesOf 767 (lengths edition2 16 16 16 8 8 0) gives refusal (byHost 19)
+    ∷ valuesOf 767 (lengths otherEdition 16 16 16 8 8 0) gives refusal (byHost 19)
     -- edition and D; D and S; S and C
-    ∷ plain edition2And17 16 8 4 [] 1000 gives refusal (byAuthor 6)
+    ∷ plain otherEditionAnd17 16 8 4 [] 1000 gives refusal (byAuthor 6)
     ∷ plain (0x01 ∷ 0x8c ∷ 0x20 ∷ 0x08 ∷ []) 16 8 4 [] 1000 gives refusal (byAuthor 7)
     ∷ plain (0x01 ∷ 0x14 ∷ 0x30 ∷ 0x08 ∷ []) 16 8 4 [] 1000 gives refusal (byAuthor 8)
     -- a field's rule before the next field's end: edition, D, S, a literal's variable
@@ -178,5 +178,5 @@ doubles =
     ∷ []
 
 pub doubles-are : answers doubles ≡ expected doubles
-unfolding doubles answers expected plain lengths valuesOf tail small edition2 edition2And17 absentAtTheEnd damaged
+unfolding doubles answers expected plain lengths valuesOf tail small otherEdition otherEditionAnd17 absentAtTheEnd damaged
 doubles-are = refl

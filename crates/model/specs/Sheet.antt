@@ -1,4 +1,4 @@
--- Specification, "Plant sheet": the bits of a sheet, what it says, and refusals 5 to 13 in reading order. Assumes nothing: these are definitions.
+-- Specification, "Plant sheet": the bits of a sheet, what it says, and refusals 5 to 13 and 20 in reading order. Assumes nothing: these are definitions.
 use Prim.Native.Nat.{ℕ, zero, suc, _+_, _-_, _*_, _/_, _%_}
 use mathlib.Core.List.{List, [], _∷_, _++_, map}
 use mathlib.Core.Bool.{Bool, true, false, _&&_}
@@ -14,7 +14,7 @@ pub record Literal : Type 0 where
   pub sign : ℕ
   pub value : ℕ
 
--- a plant: for each decision variable the cost of each of its values, for each state variable the size of its domain, and the clauses
+-- a plant: for each decision variable the cost of each of its values (in edition 2 the weight), for each state variable the size of its domain, and the clauses
 pub record Plant : Type 0 where
   pub costs : List (List ℕ)
   pub states : List ℕ
@@ -63,24 +63,30 @@ field sheet w place = elim (leb (place + w) (8 * length sheet)) [
 
 -- ---- the sheet
 
--- what differs between editions of the sheet: the number, the most decision variables, the width of a cost
+-- what differs between editions of the sheet: the number, the most decision variables, the width of a cost, and whether weights stand where costs stood
 pub record Edition : Type 0 where
   pub number : ℕ
   pub most : ℕ
   pub costBits : ℕ
+  pub weighed : Bool
 
 unfoldable pub edition1 : Edition
-edition1 = record { number = 1; most = 16; costBits = 16 }
+edition1 = record { number = 1; most = 16; costBits = 16; weighed = false }
+
+-- chances in 256ths in place of costs
+unfoldable pub edition2 : Edition
+edition2 = record { number = 2; most = 8; costBits = 8; weighed = true }
+
+-- the edition whose figures are weights, or the one whose figures are costs
+abbrev pub editionOf : Bool → Edition
+editionOf false = edition1
+editionOf true = edition2
 
 -- whether an edition allows this many decision variables
 unfoldable pub decisionsAllowed : Edition → ℕ → Bool
 decisionsAllowed e d = leb 1 d && leb d (e .most)
 
-module _ (e : Edition) (sheet : List ℕ) where
-  -- a decision variable: domain size less 1, then for each value a cost
-  unfoldable pub readDecision : ℕ → Read (List ℕ)
-  readDecision place = then (field sheet 4 place) (λ n after. many (field sheet (e .costBits)) (n + 1) after)
-
+module _ (sheet : List ℕ) where
   -- a state variable: domain size less 1
   unfoldable pub readState : ℕ → Read ℕ
   readState place = then (field sheet 4 place) (λ n after. got (n + 1) after)
@@ -116,13 +122,22 @@ module _ (e : Edition) (sheet : List ℕ) where
       then (readFiller ((8 - place % 8) % 8) place) (λ zeros end.
       elim (eqb end (8 * length sheet)) [ false ↦ refused 13 | true ↦ got p end ])
 
+module _ (e : Edition) (sheet : List ℕ) where
+  -- a cost, or a weight; 20: a weight is zero
+  unfoldable pub readFigure : ℕ → Read ℕ
+  readFigure place = then (field sheet (e .costBits) place) (λ c after. elim (e .weighed && eqb c 0) [ true ↦ refused 20 | false ↦ got c after ])
+
+  -- a decision variable: domain size less 1, then for each value a cost or a weight
+  unfoldable pub readDecision : ℕ → Read (List ℕ)
+  readDecision place = then (field sheet 4 place) (λ n after. many readFigure (n + 1) after)
+
   -- what follows the four counts
   unfoldable pub readBody : ℕ → ℕ → ℕ → ℕ → Read Plant
   readBody d s c place =
       then (many readDecision d place) (λ costs after.
-      then (many readState s after) (λ states after.
-      then (many (readClause (map length costs ++ states)) c after) (λ clauses after.
-      readEnd (record { costs = costs; states = states; clauses = clauses }) after)))
+      then (many (readState sheet) s after) (λ states after.
+      then (many (readClause sheet (map length costs ++ states)) c after) (λ clauses after.
+      readEnd sheet (record { costs = costs; states = states; clauses = clauses }) after)))
 
   -- the sheet whole; 6: the edition; 7, 8, 9: the numbers of decision variables, of state variables and of clauses
   unfoldable pub readSheet : Read Plant
@@ -148,3 +163,7 @@ module _ (e : Edition) (sheet : List ℕ) where
                   ])
             ])
       ])
+
+-- the sheet read by the edition that its first byte says: test and reduction take both editions, and 6 is for any other
+unfoldable pub readEither : List ℕ → Read Plant
+readEither sheet = elim (eqb (getD sheet 0 0) 2) [ true ↦ readSheet edition2 sheet | false ↦ readSheet edition1 sheet ]

@@ -4,13 +4,13 @@ use mathlib.Core.List.{List, [], _∷_, _++_, map}
 use Prim.Native.Nat.{ℕ}
 use lib.ListN.{length, replicate}
 use Rattle.model.specs.Digits.{number, digits}
-use Rattle.model.specs.Sheet.{bitAt, bitsAt, then, many, field, edition1, decisionsAllowed, readDecision, readState, readLiteral, readClause, readFiller, readEnd, readBody, readSheet}
+use Rattle.model.specs.Sheet.{bitAt, bitsAt, then, many, field, edition1, edition2, decisionsAllowed, readFigure, readDecision, readState, readLiteral, readClause, readFiller, readEnd, readBody, readSheet}
 use Rattle.model.specs.Calls.{Refusal, byHost, byAuthor, firstGiven, refused}
 use Rattle.model.specs.Tables.{Tables, total, costRows, literals, clauses, plantWritten, packed, sheetOf}
 use Rattle.model.specs.TableCalls.{Wrote, unwritten, wrote, lengthsAgree, fieldsFit, lengthGrounds, literalGrounds, tableGrounds, roomGrounds, writeSheet, writeCall, readTables, frontTables, writeExport, readExport}
 use Rattle.model.specs.Examples.{tail, small, damaged}
 use Rattle.model.specs.Edges.{oneVariable, oneValue}
-use Rattle.model.specs.Refusals.{edition2, longer}
+use Rattle.model.specs.Refusals.{otherEdition, longer}
 
 -- ---- tables
 
@@ -90,7 +90,7 @@ wantedOf room (refusal r) = unwritten (sevens room) r
 
 -- whoever unfolds this unfolds every definition of the writing
 unfoldable pub writing : WriteRow → Wrote
-unfolding number digits edition1 decisionsAllowed firstGiven total costRows literals clauses plantWritten packed sheetOf
+unfolding number digits edition1 edition2 decisionsAllowed firstGiven total costRows literals clauses plantWritten packed sheetOf
     lengthsAgree fieldsFit lengthGrounds literalGrounds tableGrounds roomGrounds writeSheet writeCall
 writing r = writeCall (r .given) (sevens (r .room))
 
@@ -224,7 +224,7 @@ lentTables = tables 5 5 5 (replicate 4 5) (replicate 5 5) (replicate 3 5) (repli
 
 -- whoever unfolds this unfolds every definition of the reading
 unfoldable pub reading : List ℕ → ℕ × Tables
-unfolding number digits bitAt bitsAt then many field edition1 decisionsAllowed readDecision readState readLiteral readClause readFiller readEnd readBody readSheet readTables readExport
+unfolding number digits bitAt bitsAt then many field edition1 edition2 decisionsAllowed readFigure readDecision readState readLiteral readClause readFiller readEnd readBody readSheet readTables readExport
 reading bytes = readExport bytes lentTables
 
 -- a sheet, what is returned, and the lent numbers and tables after it
@@ -244,7 +244,7 @@ readings =
     ∷ reads oneValue 0 (tables 2 0 0 (1 ∷ 2 ∷ 5 ∷ 5 ∷ []) (0 ∷ 2 ∷ 1 ∷ 5 ∷ 5 ∷ []) (replicate 3 5) (replicate 14 5))
     -- refusals change nothing, the last of them found at the sheet's end
     ∷ reads [] 5 lentTables
-    ∷ reads edition2 6 lentTables
+    ∷ reads otherEdition 6 lentTables
     ∷ reads damaged 12 lentTables
     ∷ reads longer 13 lentTables
     ∷ []
@@ -257,7 +257,7 @@ unfoldable pub readWanted : List ReadRow → List (ℕ × Tables)
 readWanted rows = map (λ r. (r .returned, r .after)) rows
 
 pub readings-are : readAll readings ≡ readWanted readings
-unfolding readings readAll readWanted small tail oneValue edition2 damaged longer
+unfolding readings readAll readWanted small tail oneValue otherEdition damaged longer
 readings-are = refl
 
 -- the tables at the front of lent ones are those read
@@ -266,8 +266,8 @@ unfolding total
 front-is = refl
 
 -- whose a refusal of the reading is
-pub author-read : readTables edition2 ≡ refused (byAuthor 6)
-unfolding reading edition2 tail
+pub author-read : readTables otherEdition ≡ refused (byAuthor 6)
+unfolding reading otherEdition tail
 author-read = refl
 
 -- ---- the export of the writing

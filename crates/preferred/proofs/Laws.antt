@@ -1,4 +1,4 @@
--- The word that hands in the cheapest values, one variable further. Assumes nothing.
+-- The word that hands in the best values, one variable further. Assumes nothing.
 use mathlib.Core.Path.{_≡_, _∙_}
 use mathlib.Core.List.{List, []}
 use Prim.Native.Nat.{ℕ, _+_, _-_, _*_, _%_, _^_, _≤_, _<_}
@@ -10,7 +10,7 @@ use borrow.Rule.Slice.PartAt.{part-to-end}
 use Rattle.model.specs.Lists.{All}
 use Rattle.theory.specs.Plant.{Sized}
 use Rattle.theory.specs.Tables.{rows}
-use Rattle.theory.specs.Value.{CheapestValue, BestValues}
+use Rattle.theory.specs.Value.{BestValue, BestValues}
 use Rattle.theory.proofs.Lists.{all-at}
 use Rattle.theory.proofs.Tables.{rows-at, rows-length}
 use Rattle.theory.proofs.Value.{next-value}
@@ -32,16 +32,16 @@ module _ (sizes costs : List ℕ) (d : ℕ) (known : (d ≤ 16) × (d ≤ length
   size-at v h = rw (getD-take d sizes v 0 h) at (all-at 0 Sized (take d sizes) (known .3) v (rw length-sizes h))
 
   -- after the last variable the word has the values of all
-  pub all-handed : (v : ℕ) {word : ℕ} → v ≡ d → BestValues _<_ (take v table) word → BestValues _<_ table word
+  pub all-handed : {Better : ℕ → ℕ → Type 0} (v : ℕ) {word : ℕ} → v ≡ d → BestValues Better (take v table) word → BestValues Better table word
   all-handed v e h = rw (take-all v table (omega (arith, length-table))) at h
 
-  module _ (v x : ℕ) {size word : ℕ} (h : v < d) (s : size ≡ getD sizes v 0)
-      (best : CheapestValue (take size (take (length costs - 16 * v) (drop (16 * v) costs))) x) (old : BestValues _<_ (take v table) word) where
+  module _ {Better : ℕ → ℕ → Type 0} (v x : ℕ) {size word : ℕ} (h : v < d) (s : size ≡ getD sizes v 0)
+      (best : BestValue Better (take size (take (length costs - 16 * v) (drop (16 * v) costs))) x) (old : BestValues Better (take v table) word) where
     -- the variable's row stands where its costs are read
     row-is : getD table v [] ≡ take size (drop (16 * v) costs)
     row-is = rows-at (take d sizes) costs v (rw length-sizes h) ∙ rw (getD-take d sizes v 0 h, ← s) (take-take size 16 (drop (16 * v) costs) (omega (arith, size-at v h .1)))
 
-    read : CheapestValue (take size (drop (16 * v) costs)) x
+    read : BestValue Better (take size (drop (16 * v) costs)) x
     read = rw (part-to-end costs (16 * v)) at best
 
     small : x < 16
@@ -56,5 +56,5 @@ module _ (sizes costs : List ℕ) (d : ℕ) (known : (d ≤ 16) × (d ≤ length
     placed = rw (shl-exact {a = x} 4 (60 - 4 * v) 64 small (omega arith), nibble-place v few)
 
     -- with the variable's value at its place the word hands in one value more
-    pub one-more : BestValues _<_ (take (v + 1) table) (word + x * 2 ^ (60 - 4 * v) % 2 ^ 64)
+    pub one-more : BestValues Better (take (v + 1) table) (word + x * 2 ^ (60 - 4 * v) % 2 ^ 64)
     one-more = rw placed (next-value table v x word (omega (arith, length-table)) few small old (rw row-is read))

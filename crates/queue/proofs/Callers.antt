@@ -1,19 +1,22 @@
--- What a caller of the queue needs besides the contracts: a queue with no nodes, nodes put in one after another, and that the order by cost and then by code is one that the queue is for. Assumes nothing.
-use mathlib.Core.Path.{refl, sym, _∙_}
+-- What a caller of the queue needs besides the contracts: a queue with no nodes, nodes put in one after another, and that the orders of both editions are such as the queue is for. Assumes nothing.
+use mathlib.Core.Path.{_≡_, refl, sym, _∙_, subst}
+use mathlib.Core.Bool.{Bool, true, false}
 use mathlib.Core.List.{List, [], _∷_, _++_}
 use Prim.Native.Nat.{ℕ, _≤_}
 use native.Mathlib.Omega.{arith}
 use lib.ListN.{length, length-map}
 use Rattle.model.specs.Lists.{All}
-use Rattle.model.specs.Sheet.{Plant, decisionSizes}
+use Rattle.model.specs.Sheet.{Plant, editionOf, decisionSizes}
 use Rattle.model.specs.Assignment.{Assignment}
-use Rattle.model.specs.Order.{Order, orderOf}
+use Rattle.model.specs.Order.{Order, figureOf, orderOf}
 use Rattle.model.specs.Listing.{enqueue, enqueueAll}
-use Rattle.theory.specs.Plant.{Sized}
+use Rattle.theory.specs.Plant.{Accepted}
 use Rattle.theory.proofs.Lists.{all-map, all-image, sum-join}
-use Rattle.theory.proofs.Order.{cost-lawful}
+use Rattle.theory.proofs.Bounds.{few-weighed, cost-fits, chance-fits}
+use Rattle.theory.proofs.Order.{edition-lawful}
 use Rattle.theory.proofs.Queue.{enqueue-sum, enqueueAll-sum}
-use Rattle.queue.specs.Order.{entryOf, Suits}
+use Rattle.theory.proofs.Value.{edition-few, edition-weighed}
+use Rattle.queue.specs.Order.{entryOf, FigureFits, Suits}
 use Rattle.queue.specs.Entries.{entries, Same}
 use Rattle.queue.specs.Inside.{HeapFrom}
 use Rattle.queue.specs.Queue.{Ready, Holds}
@@ -39,10 +42,20 @@ module _ (o : Order) where
   holds-next n words queue nodes node = holds-reordered n words (enqueue o node (enqueueAll o nodes queue)) (enqueueAll o (nodes ++ (node ∷ [])) queue)
       (λ w. omega (arith, enqueue-sum o w node (enqueueAll o nodes queue), enqueueAll-sum o w nodes queue, enqueueAll-sum o w (nodes ++ (node ∷ [])) queue, sum-join w nodes (node ∷ [])))
 
--- the order by cost and then by code suits a plant's nodes
-pub cost-suits : (p : Plant) → length (p .costs) ≤ 16 → All (λ row. Sized (length row)) (p .costs) → Suits (decisionSizes p) (orderOf p)
-cost-suits p few sized = record {
-  few = rw (length-map (p .costs) length) few;
-  small = all-image length (λ s. s ≤ 16) (p .costs) (all-map (λ row z. z .1) (p .costs) sized);
-  preferred = cost-lawful p few sized .preferred;
+-- the order of either edition suits its plants' nodes
+pub edition-suits : (w : Bool) (p : Plant) → Accepted (editionOf w) p → Suits (decisionSizes p) (orderOf (editionOf w) p)
+unfolding orderOf
+edition-suits w p a = record {
+  few = rw (length-map (p .costs) length) (edition-few w p a);
+  fewer = λ e. rw (length-map (p .costs) length) (fewer w a (sym (edition-weighed w) ∙ e));
+  small = all-image length (λ s. s ≤ 16) (p .costs) (all-map (λ row z. z .1) (p .costs) (a .decision-sizes));
+  preferred = edition-lawful w p a .preferred;
+  figures = λ f h. rw (edition-weighed w) (figures w a f);
 }
+  where
+    fewer : (u : Bool) → Accepted (editionOf u) p → u ≡ true → length (p .costs) ≤ 8
+    fewer u b e = few-weighed p (subst (λ (x : Bool). Accepted (editionOf x) p) e b)
+
+    figures : (u : Bool) → Accepted (editionOf u) p → (f : List ℕ) → FigureFits u (figureOf u (p .costs) f)
+    figures false b f = cost-fits p b f
+    figures true b f = chance-fits p b f

@@ -13,12 +13,12 @@ use Rattle.model.specs.Order.{Order}
 use Rattle.model.specs.Listing.{enqueue, leaveOff}
 use Rattle.theory.specs.Nodes.{sumOf, Ordered}
 use Rattle.theory.specs.Words.{Wide}
-use Rattle.theory.proofs.Lists.{all-map, all-image, at-member}
+use Rattle.theory.proofs.Lists.{all-map, all-zip, all-image, at-member}
 use Rattle.theory.proofs.Queue.{enqueue-sum, enqueue-length}
-use Rattle.queue.specs.Order.{Item, entryOf, comesBefore, Due, Keyed, Suits}
+use Rattle.queue.specs.Order.{Item, entryOf, maskIn, comesBefore, Due, Keyed, Suits}
 use Rattle.queue.specs.Entries.{pairs, entries, Same}
 use Rattle.queue.specs.Queue.{Ready, Holds}
-use Rattle.queue.proofs.EntryLaws.{maskIn, valuesIn, node-back}
+use Rattle.queue.proofs.EntryLaws.{valuesIn, node-back}
 use Rattle.queue.proofs.PairLaws.{room, length-entries}
 use Rattle.queue.proofs.SieveLaws.{Answers}
 use Rattle.queue.proofs.SumLaws.{of-all, sum-map, keep-same, same-length, same-member, same-all}
@@ -35,14 +35,14 @@ holds-push o n old new queue node e h is ready s = record {
 
 -- ---- the entry that is due first is taken out
 
-module _ {o : Order} (keyed : Keyed o) {n : ℕ} {old : List ℕ} {node : Assignment} {rest : List Assignment} (ordered : Ordered o (node ∷ rest)) (h : Holds o n old (node ∷ rest))
+module _ (ss : List ℕ) {o : Order} (keyed : Keyed ss o) {n : ℕ} {old : List ℕ} {node : Assignment} {rest : List Assignment} (valid : All (Valid ss) (node ∷ rest)) (ordered : Ordered o (node ∷ rest)) (h : Holds o n old (node ∷ rest))
     {e : Item} (least : All (Due e) (entries n old)) where
   -- it is that of the first node: the first node's entry comes before each other's, and no entry comes before it
   first-node : (es : List Item) → Same (entries n old) (e ∷ es) → e ≡ entryOf o node
   first-node es s = go (same-member (map (entryOf o) (node ∷ rest)) (e ∷ es) (λ w. h .same w ∙ s w) e (inl refl))
     where
       earlier : All (λ y. comesBefore (entryOf o node) y ≡ true) (map (entryOf o) rest)
-      earlier = all-image (entryOf o) (λ y. comesBefore (entryOf o node) y ≡ true) rest (all-map (keyed node) rest (ordered .0))
+      earlier = all-image (entryOf o) (λ y. comesBefore (entryOf o node) y ≡ true) rest (all-map (λ m h. keyed node m (valid .0) (h .0) (h .1)) rest (all-zip (Valid ss) _ rest (valid .1) (ordered .0)))
 
       due : Due e (entryOf o node)
       due = same-all (Due e) (entries n old) (map (entryOf o) (node ∷ rest)) (λ w. sym (h .same w)) least .0
@@ -60,19 +60,19 @@ module _ {o : Order} (keyed : Keyed o) {n : ℕ} {old : List ℕ} {node : Assign
 -- ---- the entries of nodes that manifest a conflict are left out
 
 -- an entry's node does not manifest c, where it is a node as long as c
-pub spared : Assignment → Item → Bool
-spared c e = not (manifests (assignmentOf (length c) (maskIn e) (valuesIn e)) c)
+pub spared : Bool → Assignment → Item → Bool
+spared w c e = not (manifests (assignmentOf (length c) (maskIn (e .1)) (valuesIn w e)) c)
 
 module _ (ss : List ℕ) (o : Order) (c : Assignment) (suits : Suits ss o) (long : length c ≡ length ss) where
   -- that is said of a node's entry where the node does not
-  spared-node : (m : Assignment) → Valid ss m → spared c (entryOf o m) ≡ not (manifests m c)
+  spared-node : (m : Assignment) → Valid ss m → spared (o .weighed) c (entryOf o m) ≡ not (manifests m c)
   unfolding spared
   spared-node m v = rw (long, node-back ss o m suits v)
 
   -- the entries of the nodes that are left are those that are spared
-  spared-nodes : (queue : List Assignment) → All (Valid ss) queue → map (entryOf o) (leaveOff (c ∷ []) queue) ≡ keep (spared c) (map (entryOf o) queue)
+  spared-nodes : (queue : List Assignment) → All (Valid ss) queue → map (entryOf o) (leaveOff (c ∷ []) queue) ≡ keep (spared (o .weighed) c) (map (entryOf o) queue)
   spared-nodes [] v = refl
-  spared-nodes (m ∷ queue) v = rw (spared-node m (v .0)) (go (manifests m c) (leaveOff (c ∷ []) queue) (keep (spared c) (map (entryOf o) queue)) (spared-nodes queue (v .1)))
+  spared-nodes (m ∷ queue) v = rw (spared-node m (v .0)) (go (manifests m c) (leaveOff (c ∷ []) queue) (keep (spared (o .weighed) c) (map (entryOf o) queue)) (spared-nodes queue (v .1)))
     where
       go : (b : Bool) (ns : List Assignment) (es : List Item) → map (entryOf o) ns ≡ es
           → map (entryOf o) (keepIf (not (elim b [ true ↦ true | false ↦ false ])) m ns) ≡ keepIf (not b) (entryOf o m) es
@@ -81,18 +81,18 @@ module _ (ss : List ℕ) (o : Order) (c : Assignment) (suits : Suits ss o) (long
 
   module _ (n : ℕ) (old : List ℕ) (queue : List Assignment) (h : Holds o n old queue) (valid : All (Valid ss) queue) where
     -- what `stays` answers of each entry is whether it is spared
-    pub stays-spared : (wide values : ℕ) → Wide c wide values → 2 * n ≤ length old → Answers wide values n (pairs old) (spared c)
+    pub stays-spared : (weighed : Bool) → weighed ≡ o .weighed → (wide values : ℕ) → Wide c wide values → 2 * n ≤ length old → Answers weighed wide values n (pairs old) (spared (o .weighed) c)
     unfolding entries
-    stays-spared wide values w space i l r stays =
+    stays-spared weighed is wide values w space i l r stays =
         let nodes = all-image (entryOf o) (λ e. (m : Assignment) × Valid ss m × (e ≡ entryOf o m)) queue (all-map (λ m v. (m, v, refl)) queue valid) in
         let f = of-all _ (pairs old) n (room old n space) (same-all _ (map (entryOf o) queue) (entries n old) (h .same) nodes) i l in
-        stays ss o (f .0) c suits (f .1) (f .2) w long ∙ sym (ap (spared c) (f .2) ∙ spared-node (f .0) (f .1))
+        stays ss o (f .0) c suits is (f .1) (f .2) w long ∙ sym (ap (spared (o .weighed) c) (f .2) ∙ spared-node (f .0) (f .1))
 
     -- the spared entries are the queue's without the nodes that manifest c
-    pub holds-sieve : (count : ℕ) (new : List ℕ) → 2 * count ≤ length new → Ready count new → Same (keep (spared c) (entries n old)) (entries count new) → Holds o count new (leaveOff (c ∷ []) queue)
+    pub holds-sieve : (count : ℕ) (new : List ℕ) → 2 * count ≤ length new → Ready count new → Same (keep (spared (o .weighed) c) (entries n old)) (entries count new) → Holds o count new (leaveOff (c ∷ []) queue)
     holds-sieve count new space ready s =
         let same : Same (map (entryOf o) (leaveOff (c ∷ []) queue)) (entries count new) =
-        λ w. ap (sumOf w) (spared-nodes queue valid) ∙ keep-same (spared c) (map (entryOf o) queue) (entries n old) (h .same) w ∙ s w in
+        λ w. ap (sumOf w) (spared-nodes queue valid) ∙ keep-same (spared (o .weighed) c) (map (entryOf o) queue) (entries n old) (h .same) w ∙ s w in
         record {
           ready = ready;
           same = same;

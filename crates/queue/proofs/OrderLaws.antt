@@ -1,43 +1,38 @@
--- The laws of the order of entries, which are all that the other proofs use of it: `due-refl`, `due-trans`, `due-before`, and, for the order by cost and then by code, `cost-keyed`. Assumes nothing.
+-- The laws of the order of entries, which with `suits-keyed` of EntryLaws are all that the other proofs use of it: `due-refl`, `due-trans`, `due-before`. Assumes nothing.
 use mathlib.Core.Path.{_≡_, refl, sym}
 use mathlib.Core.Logic.{_⊎_, inl, inr}
 use mathlib.Core.Bool.{Bool, true, false, _&&_, _||_, false≢true}
-use Prim.Native.Nat.{_/_, _^_, _≤_, _<_}
+use Prim.Native.Nat.{_≤_, _<_}
 use native.Mathlib.Omega.{arith}
 use lib.Dec.{ltb, eqb}
 use borrow.Author.Tests.{ltb-true, ltb-false, eqb-true, eqb-false, le-ltb, eq-eqb, ne-eqb}
-use Rattle.model.specs.Sheet.{Plant}
-use Rattle.model.specs.Assignment.{Assignment, maskOf}
-use Rattle.model.specs.Order.{Order, best, costThenCode, orderOf}
-use Rattle.theory.proofs.Order.{holds}
-use Rattle.theory.proofs.Words.{mask-below}
-use Rattle.queue.specs.Order.{Item, comesBefore, entryOf, Due, Keyed}
+use Rattle.queue.specs.Order.{Item, comesBefore, Due}
 
 -- x does not come before y: the figures decide, or are equal and the codes do
 NotBefore : Item → Item → Type 0
-NotBefore x y = (y .0 / 65536 < x .0 / 65536) ⊎ ((y .0 / 65536 ≡ x .0 / 65536) × (y .1 ≤ x .1))
+NotBefore x y = (y .0 < x .0) ⊎ ((y .0 ≡ x .0) × (y .1 ≤ x .1))
 
 module _ (x y : Item) where
   -- the test that is false is such a fact
   read-false : comesBefore x y ≡ false → NotBefore x y
   unfolding comesBefore NotBefore
-  read-false = go (ltb (x .0 / 65536) (y .0 / 65536)) (eqb (x .0 / 65536) (y .0 / 65536)) (ltb (x .1) (y .1)) refl refl refl
+  read-false = go (ltb (x .0) (y .0)) (eqb (x .0) (y .0)) (ltb (x .1) (y .1)) refl refl refl
     where
-      go : (s t u : Bool) → ltb (x .0 / 65536) (y .0 / 65536) ≡ s → eqb (x .0 / 65536) (y .0 / 65536) ≡ t → ltb (x .1) (y .1) ≡ u → (s || (t && u)) ≡ false → NotBefore x y
+      go : (s t u : Bool) → ltb (x .0) (y .0) ≡ s → eqb (x .0) (y .0) ≡ t → ltb (x .1) (y .1) ≡ u → (s || (t && u)) ≡ false → NotBefore x y
       go true t u p q r e = absurd (false≢true (sym e))
       go false true true p q r e = absurd (false≢true (sym e))
       go false true false p q r e = inr (sym (eqb-true _ _ q), ltb-false _ _ r)
       go false false u p q r e =
-          let h : y .0 / 65536 ≤ x .0 / 65536 = ltb-false _ _ p in
-          let k : x .0 / 65536 ≡ y .0 / 65536 → ⊥ = eqb-false _ _ q in
+          let h : y .0 ≤ x .0 = ltb-false _ _ p in
+          let k : x .0 ≡ y .0 → ⊥ = eqb-false _ _ q in
           inl (omega arith)
 
   -- the test that is true is such a fact the other way round
   read-true : comesBefore x y ≡ true → NotBefore y x
   unfolding comesBefore NotBefore
-  read-true = go (ltb (x .0 / 65536) (y .0 / 65536)) (eqb (x .0 / 65536) (y .0 / 65536)) (ltb (x .1) (y .1)) refl refl refl
+  read-true = go (ltb (x .0) (y .0)) (eqb (x .0) (y .0)) (ltb (x .1) (y .1)) refl refl refl
     where
-      go : (s t u : Bool) → ltb (x .0 / 65536) (y .0 / 65536) ≡ s → eqb (x .0 / 65536) (y .0 / 65536) ≡ t → ltb (x .1) (y .1) ≡ u → (s || (t && u)) ≡ true → NotBefore y x
+      go : (s t u : Bool) → ltb (x .0) (y .0) ≡ s → eqb (x .0) (y .0) ≡ t → ltb (x .1) (y .1) ≡ u → (s || (t && u)) ≡ true → NotBefore y x
       go true t u p q r e = inl (ltb-true _ _ p)
       go false true true p q r e =
           let h : x .1 < y .1 = ltb-true _ _ r in
@@ -48,8 +43,8 @@ module _ (x y : Item) where
   -- and such a fact makes the test false
   make-false : NotBefore x y → comesBefore x y ≡ false
   unfolding comesBefore NotBefore
-  make-false (inl h) = rw (le-ltb (x .0 / 65536) (y .0 / 65536) (omega arith), ne-eqb (x .0 / 65536) (y .0 / 65536) (omega arith))
-  make-false (inr h) = rw (le-ltb (x .0 / 65536) (y .0 / 65536) (omega arith), le-ltb (x .1) (y .1) (h .1), eq-eqb (x .0 / 65536) (y .0 / 65536) (sym (h .0)))
+  make-false (inl h) = rw (le-ltb (x .0) (y .0) (omega arith), ne-eqb (x .0) (y .0) (omega arith))
+  make-false (inr h) = rw (le-ltb (x .0) (y .0) (omega arith), le-ltb (x .1) (y .1) (h .1), eq-eqb (x .0) (y .0) (sym (h .0)))
 
 -- an entry is due no later than itself
 pub due-refl : (x : Item) → Due x x
@@ -70,15 +65,3 @@ due-trans x y z h k = make-false z x (go (read-false y x h) (read-false z y k))
 -- what comes before another is due no later
 pub due-before : (x y : Item) → comesBefore x y ≡ true → Due x y
 due-before x y h = make-false y x (read-true x y h)
-
--- the figure of a node's best state is what stands above the sixteen bits of its mask
-pub figure-above : (o : Order) (n : Assignment) → entryOf o n .0 / 65536 ≡ o .figure (best (o .preferred) n)
-unfolding entryOf
-figure-above o n =
-    let low : maskOf n / 2 ^ 48 < 65536 = omega (arith, mask-below n) in
-    omega arith
-
--- entries come in the order by cost and then by code
-pub cost-keyed : (p : Plant) → Keyed (orderOf p)
-unfolding orderOf costThenCode comesBefore entryOf
-cost-keyed p m n t = rw (figure-above (orderOf p) m, figure-above (orderOf p) n) (holds _ .0 t)

@@ -22,8 +22,8 @@ keep-one test [] x = refl
 keep-one test (y ∷ xs) x = ap (keepIf (test y) y) (keep-one test xs x) ∙ keepIf-append (test y) y (keep test xs) (keepIf (test x) x [])
 
 -- on each of the first n entries `stays` answers what the test says
-abbrev pub Answers : ℕ → ℕ → ℕ → List Item → (Item → Bool) → Type 0
-Answers wide values n xs test = (i : ℕ) → i < n → (r : Bool) → Stays wide values (nth xs i) r → r ≡ test (nth xs i)
+abbrev pub Answers : Bool → ℕ → ℕ → ℕ → List Item → (Item → Bool) → Type 0
+Answers weighed wide values n xs test = (i : ℕ) → i < n → (r : Bool) → Stays weighed wide values (nth xs i) r → r ≡ test (nth xs i)
 
 -- `old` is the list at the start and xs the list now; i entries are read, and `count` of them kept
 pub record Sieving (test : Item → Bool) (old xs : List Item) (count i : ℕ) : Type 0 where

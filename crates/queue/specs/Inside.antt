@@ -40,5 +40,5 @@ pub record Rebuilt (n : ℕ) (old new : List Item) : Type 0 where
   pub same : Same (take n old) (take n new)
 
 -- `stays`: the entry's node does not manifest the conflict with this widened mask and these values
-abbrev pub Stays : ℕ → ℕ → Item → Bool → Type 0
-Stays wide values e r = (ss : List ℕ) (o : Order) (n c : Assignment) → Suits ss o → Valid ss n → e ≡ entryOf o n → Wide c wide values → length c ≡ length ss → r ≡ not (manifests n c)
+abbrev pub Stays : Bool → ℕ → ℕ → Item → Bool → Type 0
+Stays weighed wide values e r = (ss : List ℕ) (o : Order) (n c : Assignment) → Suits ss o → weighed ≡ o .weighed → Valid ss n → e ≡ entryOf o n → Wide c wide values → length c ≡ length ss → r ≡ not (manifests n c)

@@ -1,5 +1,6 @@
 -- The tables of an accepted sheet, without gaps, at the front of lent ones. Assumes nothing.
 use mathlib.Core.Path.{_≡_, refl, ap, _∙_}
+use mathlib.Core.Bool.{false}
 use mathlib.Core.List.{List, [], _∷_, map}
 use Prim.Native.Nat.{ℕ, _+_, _*_, _≤_}
 use native.Mathlib.Omega.{arith}
@@ -26,7 +27,7 @@ use Rattle.read_call.specs.declared.Opened.{Opened}
 abbrev pub closed : (d s c : ℕ) (sizes costs counts lits : List ℕ) → Tables
 closed d s c sizes costs counts lits = tablesGiven d s c (take (d + s) sizes) (inTurn (λ row. row) (rows (take d sizes) costs)) (take c counts) (take (3 * total (take c counts)) lits)
 
-module _ {sheet sizes costs counts lits : List ℕ} {d s c : ℕ} (o : Read-in sheet sizes costs counts lits d s c) where
+module _ {sheet sizes costs counts lits : List ℕ} {d s c : ℕ} (o : Read-in false sheet sizes costs counts lits d s c) where
   first : take d (take (d + s) sizes) ≡ take d sizes
   first = take-take d (d + s) sizes (omega arith)
 
@@ -78,5 +79,5 @@ module _ (sheet : List ℕ) (before : Tables) where
   refused-told n e = let f : readTables sheet ≡ refused (byAuthor n) = rw (readTables, e) in (f, rw f)
 
   -- the sheet's tables are at the front of the lent ones
-  pub opened-told : {sizes costs counts lits : List ℕ} {d s c : ℕ} (after : Tables) → Read-in sheet sizes costs counts lits d s c → after ≡ filledTables (closed d s c sizes costs counts lits) before → Told Opened.Tables after
+  pub opened-told : {sizes costs counts lits : List ℕ} {d s c : ℕ} (after : Tables) → Read-in false sheet sizes costs counts lits d s c → after ≡ filledTables (closed d s c sizes costs counts lits) before → Told Opened.Tables after
   opened-told after o e = let f = opened-tables o in ((_, f), rw f e)

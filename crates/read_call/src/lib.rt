@@ -101,7 +101,7 @@ fn read_through(
         let after : Tables = tablesLent (now (sizes .exit)) (now (costs .exit)) (now (counts .exit)) (now (lits .exit)) (now (numbers .exit)) in
         Answers r (readTables (now (sheet .entry))) × (after ≡ tablesAfter before (readTables (now (sheet .entry))))) ⌝ }
 {
-    match sheet::read(sheet, domains, prices, lengths, bytes) {
+    match sheet::read(sheet, false, domains, prices, lengths, bytes) {
         sheet::Answer::Refused(n) => Opened::Refused(Refusal::Author(n)),
         sheet::Answer::Counts(d, s, c) => {
             fill(sizes, domains, d + s);

@@ -13,10 +13,12 @@ pub const STATES: usize = VARIABLES - DECISIONS;
 // Bits of the edition with the three counts.
 pub const HEAD_BITS: usize = 29;
 
-// Bits of a domain size, of a cost and of a literal count.
+// Bits of a domain size, of a cost, of a weight and of a literal count.
 pub const SIZE_BITS: usize = 4;
 
 pub const COST_BITS: usize = 16;
+
+pub const WEIGHT_BITS: usize = 8;
 
 pub const COUNT_BITS: usize = 4;
 
@@ -47,7 +49,7 @@ pub enum Step {
     Refused(u32),
 }
 
-// A part of a table with its length and the place after it, or a refusal.
+// A number, of what was read or of how many entries of a table it fills, with the place after it; or a refusal.
 pub enum Item {
     Got(usize, usize),
     Refused(u32),

@@ -88,13 +88,21 @@ fn checksum(
     mixed_all(counted, &lits[..n])
 }
 
-// Decodes a sheet and prints its line.
+// Decodes a sheet by the edition that its first byte says, and prints its line.
 fn answer(bytes: &[u8]) {
     let mut sizes = [0u8; SIZE_ENTRIES];
     let mut costs = [0u16; COST_ENTRIES];
     let mut counts = [0u8; COUNT_ENTRIES];
     let mut lits = [0u8; LITERAL_BYTES];
-    match sheet::read(bytes, &mut sizes, &mut costs, &mut counts, &mut lits) {
+    let weighed = sheet::weighed(bytes);
+    match sheet::read(
+        bytes,
+        weighed,
+        &mut sizes,
+        &mut costs,
+        &mut counts,
+        &mut lits,
+    ) {
         Answer::Refused(number) => {
             print_text(b"refused ");
             print_number(number as u64, b'\n');

@@ -2,16 +2,16 @@
 use Prim.Native.Nat.{ℕ, _*_, _≤_}
 use mathlib.Core.List.{List}
 use lib.ListN.{length}
-use Rattle.model.specs.Sheet.{Plant, Read, refused, got, edition1, readBody}
+use Rattle.model.specs.Sheet.{Plant, Read, refused, got, Edition, readBody}
 use Rattle.theory.specs.Tables.{plantIn}
 use Rattle.theory.specs.Longest.{headBits}
 use Rattle.sheet.specs.Tables.{Held}
 use Rattle.sheet.specs.declared.Answer.{Answer}
 
 -- the four counts have been read: what follows them is to be read, after the head
-abbrev pub headOf : List ℕ → Answer → Read Plant
-headOf sheet (Answer.Counts d s c) = readBody edition1 sheet d s c headBits
-headOf sheet (Answer.Refused n) = refused n
+abbrev pub headOf : Edition → List ℕ → Answer → Read Plant
+headOf e sheet (Answer.Counts d s c) = readBody e sheet d s c headBits
+headOf e sheet (Answer.Refused n) = refused n
 
 abbrev pub Allowed : Answer → Type 0
 Allowed (Answer.Counts d s c) = (1 ≤ d) × (d ≤ 16) × (s ≤ 32) × (c ≤ 512)

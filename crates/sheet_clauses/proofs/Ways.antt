@@ -7,7 +7,7 @@ use mathlib.Core.Bool.{true, false}
 use lib.Dec.{ltb}
 use lib.ListN.{length, getD}
 use borrow.Author.Tests.{lt-ltb, le-ltb}
-use Rattle.model.specs.Sheet.{Literal, Read, refused, got, then, field, edition1, readLiteral}
+use Rattle.model.specs.Sheet.{Literal, Read, refused, got, then, field, readLiteral}
 use Rattle.theory.specs.Longest.{literalBits}
 use Rattle.readings.proofs.Ways.{on, halt, pass, fail}
 
@@ -23,11 +23,11 @@ pub record ValueRead {sheet domains : List ℕ} {place v s : ℕ} {r : VariableR
   pub field-is : field sheet 4 (place + 6 + 1) ≡ got x (place + 6 + 1 + 4)
 
 module _ (sheet domains : List ℕ) (place : ℕ) where
-  pub variable-past : {k : ℕ} → field sheet 6 place ≡ refused k → readLiteral edition1 sheet domains place ≡ refused k
+  pub variable-past : {k : ℕ} → field sheet 6 place ≡ refused k → readLiteral sheet domains place ≡ refused k
   unfolding readLiteral
   variable-past h = halt _ h
 
-  pub variable-absent : {v : ℕ} → field sheet 6 place ≡ got v (place + 6) → length domains ≤ v → readLiteral edition1 sheet domains place ≡ refused 10
+  pub variable-absent : {v : ℕ} → field sheet 6 place ≡ got v (place + 6) → length domains ≤ v → readLiteral sheet domains place ≡ refused 10
   unfolding readLiteral
   variable-absent {v} first h = on _ first (fail 10 _ (le-ltb v (length domains) h))
 
@@ -37,22 +37,22 @@ module _ {sheet domains : List ℕ} {place : ℕ} where
     rest : {z : Read Literal} → then (field sheet 1 (place + 6)) (λ s after. then (field sheet 4 after) (λ x after. elim (ltb x (getD domains v 0)) [
       | false ↦ refused 11
       | true ↦ got (record { variable = v; sign = s; value = x }) after
-    ])) ≡ z → readLiteral edition1 sheet domains place ≡ z
+    ])) ≡ z → readLiteral sheet domains place ≡ z
     unfolding readLiteral
     rest h = on _ (r .field-is) (pass 10 _ (lt-ltb v (length domains) (r .present)) h)
 
-    pub sign-past : {k : ℕ} → field sheet 1 (place + 6) ≡ refused k → readLiteral edition1 sheet domains place ≡ refused k
+    pub sign-past : {k : ℕ} → field sheet 1 (place + 6) ≡ refused k → readLiteral sheet domains place ≡ refused k
     sign-past h = rest (halt _ h)
 
   module _ {v s : ℕ} {r : VariableRead sheet domains place v} (q : SignRead r s) where
-    pub value-past : {k : ℕ} → field sheet 4 (place + 6 + 1) ≡ refused k → readLiteral edition1 sheet domains place ≡ refused k
+    pub value-past : {k : ℕ} → field sheet 4 (place + 6 + 1) ≡ refused k → readLiteral sheet domains place ≡ refused k
     value-past h = rest r (on _ (q .field-is) (halt _ h))
 
   module _ {v s x : ℕ} {r : VariableRead sheet domains place v} {q : SignRead r s} (l : ValueRead q x) where
-    pub value-outside : getD domains v 0 ≤ x → readLiteral edition1 sheet domains place ≡ refused 11
+    pub value-outside : getD domains v 0 ≤ x → readLiteral sheet domains place ≡ refused 11
     value-outside h = rest r (on _ (q .field-is) (on _ (l .field-is) (fail 11 _ (le-ltb x (getD domains v 0) h))))
 
-    pub literal-got : x < getD domains v 0 → readLiteral edition1 sheet domains place ≡ got (record { variable = v; sign = s; value = x }) (place + literalBits)
+    pub literal-got : x < getD domains v 0 → readLiteral sheet domains place ≡ got (record { variable = v; sign = s; value = x }) (place + literalBits)
     literal-got h =
         let e : place + 6 + 1 + 4 ≡ place + literalBits = omega arith in
         rest r (on _ (q .field-is) (on _ (l .field-is) (pass 11 _ (lt-ltb x (getD domains v 0) h) (rw e))))

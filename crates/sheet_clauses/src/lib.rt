@@ -2,7 +2,7 @@
 ghost use mathlib.Core.Path.{_≡_};
 ghost use Prim.Native.Nat.{_+_, _*_, _≤_, _<_, _^_};
 ghost use lib.ListN.{length, take};
-ghost use Rattle.model.specs.Sheet.{edition1, many, readLiteral, readClause};
+ghost use Rattle.model.specs.Sheet.{many, readLiteral, readClause};
 ghost use Rattle.model.specs.Tables.{literals, clauses as clausesIn, total};
 ghost use Rattle.theory.specs.Longest.{literalBits, clauseBits};
 ghost use Rattle.readings.specs.Lengths.{clauseBytes, countEntries, literalBytes};
@@ -22,7 +22,7 @@ pub enum Lit {
 // Reads one literal over the domains.
 fn literal(sheet: &[u8], place: usize, domains: &[u8]) -> Lit
     requires { ⌜ place + literalBits < 2 ^ 64 ⌝ }
-    ensures { λ r. ⌜ litOf (place + literalBits) r ≡ readLiteral edition1 (now (sheet .entry)) (now (domains .entry)) place ⌝ }
+    ensures { λ r. ⌜ litOf (place + literalBits) r ≡ readLiteral (now (sheet .entry)) (now (domains .entry)) place ⌝ }
 {
     let fields = bits::three(sheet, place, 6, 1, 4);
     let first = fields.first;
@@ -51,7 +51,7 @@ fn literal(sheet: &[u8], place: usize, domains: &[u8]) -> Lit
 // Reads one clause over the domains: its literals go to the front of the part that is lent.
 fn clause(sheet: &[u8], place: usize, domains: &[u8], lits: &mut [u8]) -> Item
     requires { ⌜ (place + clauseBits < 2 ^ 64) × (clauseBytes ≤ length (now lits)) ⌝ }
-    ensures { λ r. ⌜ (itemOf (λ n. literals (take (3 * n) (now (lits .exit)))) r ≡ readClause edition1 (now (sheet .entry)) (now (domains .entry)) place) × Within 15 (place + clauseBits) r ⌝ }
+    ensures { λ r. ⌜ (itemOf (λ n. literals (take (3 * n) (now (lits .exit)))) r ≡ readClause (now (sheet .entry)) (now (domains .entry)) place) × Within 15 (place + clauseBits) r ⌝ }
 {
     let Field::Value(n) = bits::field_at(sheet, place, 4) else {
         return Item::Refused(5);
@@ -86,7 +86,7 @@ pub fn clauses(
     lits: &mut [u8],
 ) -> Step
     requires { ⌜ (place + clauseBits * c < 2 ^ 64) × (c ≤ 512) × (countEntries ≤ length (now counts)) × (literalBytes ≤ length (now lits)) ⌝ }
-    ensures { λ r. ⌜ (stepOf (clausesIn (take c (now (counts .exit))) (now (lits .exit))) r ≡ many (readClause edition1 (now (sheet .entry)) (now (domains .entry))) c place)
+    ensures { λ r. ⌜ (stepOf (clausesIn (take c (now (counts .exit))) (now (lits .exit))) r ≡ many (readClause (now (sheet .entry)) (now (domains .entry))) c place)
         × Onward (λ after. (after ≤ place + clauseBits * c) × (3 * total (take c (now (counts .exit))) ≤ clauseBytes * c)) r ⌝ }
 {
     let mut at = place;

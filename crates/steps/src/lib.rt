@@ -10,10 +10,9 @@ ghost use mathlib.Core.Path.{_≡_};
 ghost use Prim.Native.Nat.{ℕ, _/_, _<_};
 ghost use lib.ListN.{length};
 ghost use Rattle.model.specs.Sheet.{decisionSizes};
-ghost use Rattle.model.specs.Order.{orderOf};
 ghost use Rattle.model.specs.Listing.{step, run};
 ghost use Rattle.theory.specs.Nodes.{weights};
-ghost use Rattle.judge.specs.Standing.{NextIs};
+ghost use Rattle.judge.specs.Standing.{orderIn, NextIs};
 ghost use Rattle.plan.specs.Plans.{planWords};
 ghost use Rattle.steps.specs.Run.{Steps, FinishedAs};
 
@@ -33,9 +32,9 @@ fn step(
     sat: &Sat,
     uses: &[u64],
     plan: &mut Plan,
+    weighed: bool,
     preferred: u64,
     codes: &mut [u64],
-    costs: &mut [u32],
     values: &mut [u8],
     queue: &mut [u64],
     store: &mut [u64],
@@ -43,10 +42,10 @@ fn step(
     k: u32,
     limit: u32,
 ) -> Next
-    requires { ⌜ Steps d (now sizes) (now prices) (now counts) (now lits) (now sat) (now uses) (now plan) preferred k limit (now codes) (now costs) (now values) (now queue) (now store) g ⌝ }
-    ensures answer { λ r. ⌜ ((t : Steps d (now (sizes .entry)) (now (prices .entry)) (now (counts .entry)) (now (lits .entry)) (now (sat .entry)) (now (uses .entry)) (now (plan .entry)) preferred k limit (now (codes .entry)) (now (costs .entry)) (now (values .entry)) (now (queue .entry)) (now (store .entry)) g)
-        → NextIs (t .question) (now (queue .exit)) (now (store .exit)) (now (codes .exit)) (now (costs .exit)) (now (values .exit)) r
-        (step (t .question .plant) (orderOf (t .question .plant)) k (length (now (queue .entry)) / 2) (length (now (store .entry)) / 2) limit (t .state))) ⌝ }
+    requires { ⌜ Steps d (now sizes) (now prices) (now counts) (now lits) (now sat) (now uses) (now plan) weighed preferred k limit (now codes) (now values) (now queue) (now store) g ⌝ }
+    ensures answer { λ r. ⌜ ((t : Steps d (now (sizes .entry)) (now (prices .entry)) (now (counts .entry)) (now (lits .entry)) (now (sat .entry)) (now (uses .entry)) (now (plan .entry)) weighed preferred k limit (now (codes .entry)) (now (values .entry)) (now (queue .entry)) (now (store .entry)) g)
+        → NextIs (t .question) (now (queue .exit)) (now (store .exit)) (now (codes .exit)) (now (values .exit)) r
+        (step (t .question .plant) (orderIn (t .question)) k (length (now (queue .entry)) / 2) (length (now (store .entry)) / 2) limit (t .state))) ⌝ }
     ensures long { λ _. ⌜ length (now (plan .exit)) ≡ planWords ⌝ }
 {
     if g.queued == 0 {
@@ -69,14 +68,14 @@ fn step(
         sat,
         uses,
         plan,
+        weighed,
         preferred,
         codes,
-        costs,
         values,
         queue,
         store,
         left,
-        children::from_entry(e.a, e.b),
+        children::from_entry(e.a, e.b, weighed),
         limit,
     )
 }
@@ -91,9 +90,9 @@ pub fn run(
     sat: &Sat,
     uses: &[u64],
     plan: &mut Plan,
+    weighed: bool,
     preferred: u64,
     codes: &mut [u64],
-    costs: &mut [u32],
     values: &mut [u8],
     queue: &mut [u64],
     store: &mut [u64],
@@ -101,11 +100,11 @@ pub fn run(
     k: u32,
     limit: u32,
 ) -> Finished
-    requires { ⌜ Steps d (now sizes) (now prices) (now counts) (now lits) (now sat) (now uses) (now plan) preferred k limit (now codes) (now costs) (now values) (now queue) (now store) start ⌝ }
-    ensures { λ r. ⌜ ((t : Steps d (now (sizes .entry)) (now (prices .entry)) (now (counts .entry)) (now (lits .entry)) (now (sat .entry)) (now (uses .entry)) (now (plan .entry)) preferred k limit (now (codes .entry)) (now (costs .entry)) (now (values .entry)) (now (queue .entry)) (now (store .entry)) start)
+    requires { ⌜ Steps d (now sizes) (now prices) (now counts) (now lits) (now sat) (now uses) (now plan) weighed preferred k limit (now codes) (now values) (now queue) (now store) start ⌝ }
+    ensures { λ r. ⌜ ((t : Steps d (now (sizes .entry)) (now (prices .entry)) (now (counts .entry)) (now (lits .entry)) (now (sat .entry)) (now (uses .entry)) (now (plan .entry)) weighed preferred k limit (now (codes .entry)) (now (values .entry)) (now (queue .entry)) (now (store .entry)) start)
         (fuel : ℕ) → weights (decisionSizes (t .question .plant)) (t .state .queue) < fuel
-        → FinishedAs (t .question) (now (store .exit)) (now (codes .exit)) (now (costs .exit)) (now (values .exit)) r
-        (run (t .question .plant) (orderOf (t .question .plant)) k (length (now (queue .entry)) / 2) (length (now (store .entry)) / 2) limit fuel (t .state))) ⌝ }
+        → FinishedAs (t .question) (now (store .exit)) (now (codes .exit)) (now (values .exit)) r
+        (run (t .question .plant) (orderIn (t .question)) k (length (now (queue .entry)) / 2) (length (now (store .entry)) / 2) limit fuel (t .state))) ⌝ }
 {
     let mut g = start;
     loop {
@@ -118,9 +117,9 @@ pub fn run(
             sat,
             uses,
             plan,
+            weighed,
             preferred,
             codes,
-            costs,
             values,
             queue,
             store,

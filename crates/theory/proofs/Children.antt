@@ -12,7 +12,7 @@ use lib.Seq.{drop-cons, take-suc, set-split, take-suc-set, drop-set-lt}
 use borrow.Author.Tests.{ne-eqb}
 use Rattle.model.specs.Lists.{All, keepIf, keep, valuesFrom}
 use Rattle.model.specs.Assignment.{Assignment}
-use Rattle.model.specs.Order.{cost, valueOr, best}
+use Rattle.model.specs.Order.{valueOr, best}
 use Rattle.model.specs.Listing.{otherValues, resolving, branching}
 use Rattle.theory.specs.Nodes.{Filled}
 
@@ -110,9 +110,3 @@ best-set [] n v x = refl
 best-set (p ∷ ps) [] v x = refl
 best-set (p ∷ ps) (o ∷ n) zero x = refl
 best-set (p ∷ ps) (o ∷ n) (suc v) x = ap (λ (f : List ℕ). valueOr p o ∷ f) (best-set ps n v x)
-
--- where no value costs more than a number, a full assignment costs at most that for each variable
-pub cost-most : (rows : List (List ℕ)) (f : List ℕ) (most : ℕ) → All (All (λ c. c ≤ most)) rows → cost rows f ≤ length rows * most
-cost-most [] f most a = omega arith
-cost-most (row ∷ rows) [] most a = omega arith
-cost-most (row ∷ rows) (x ∷ f) most a = omega (arith, all-at (λ c. c ≤ most) 0 (omega arith) row x (a .0), cost-most rows f most (a .1))

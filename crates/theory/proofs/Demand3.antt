@@ -10,7 +10,7 @@ use borrow.Author.Tests.{ltb-false}
 use lib.Dec.{ltb}
 use lib.ListN.{length, getD, take, replicate, length-map}
 use Rattle.model.specs.Lists.{Some, Mem, All, Pairs, Begins, filled, inTurn}
-use Rattle.model.specs.Sheet.{Plant, Read, got, edition1, readSheet, decisionSizes, sizes}
+use Rattle.model.specs.Sheet.{Plant, Read, got, Edition, editionOf, readSheet, decisionSizes, sizes}
 use Rattle.model.specs.Assignment.{Assignment, code, full}
 use Rattle.model.specs.Conflict.{Conflict}
 use Rattle.model.specs.Order.{Order, Before, orderOf, Entry, entryOf, leadingStates, wholeSet}
@@ -27,8 +27,9 @@ use Rattle.theory.proofs.Filled.{filled-take, filled-drop, filled-at}
 use Rattle.theory.proofs.BestFirst.{listed-first, listed-all}
 use Rattle.theory.proofs.BruteForce.{is-consistent}
 use Rattle.theory.proofs.Whole.{leading-sound, leading-complete, leading-ascending}
-use Rattle.theory.proofs.Order.{code-injective, cost-lawful}
-use Rattle.theory.proofs.Sheet.{accepted}
+use Rattle.theory.proofs.Order.{code-injective, edition-lawful}
+use Rattle.theory.proofs.Sheet.{accepted-any}
+use Rattle.theory.proofs.Value.{edition-few}
 use Rattle.theory.proofs.Test.{accepted-present}
 use Rattle.theory.proofs.Store.{among-all, among-trans}
 use Rattle.theory.proofs.Learned.{stored-places, stored-remembers}
@@ -160,51 +161,51 @@ module _ (p : Plant) (o : Order) (law : Lawful (decisionSizes p) o) (short : len
 
 -- ---- every call
 
--- what an accepted sheet gives
-module _ (sheet : List ℕ) (p : Plant) (end : ℕ) (e : readSheet edition1 sheet ≡ got p end) where
-  sheet-accepted : Accepted edition1 p
-  sheet-accepted = accepted sheet p end e .0
+-- what an accepted sheet of either edition gives
+module _ (w : Bool) (sheet : List ℕ) (p : Plant) (end : ℕ) (e : readSheet (editionOf w) sheet ≡ got p end) where
+  -- its order
+  abbrev o : Order
+  o = orderOf (editionOf w) p
 
-  sheet-short : length (p .costs) ≤ 16
-  unfolding edition1
-  sheet-short = sheet-accepted .decisions
+  sheet-accepted : Accepted (editionOf w) p
+  sheet-accepted = accepted-any (editionOf w) sheet p end e .0
 
   sheet-sized : All Sized (decisionSizes p)
   sheet-sized = all-image length Sized (p .costs) (sheet-accepted .decision-sizes)
 
   sheet-few : length (sizes p) ≤ stateBytes
-  sheet-few = accepted-few p sheet-accepted
+  sheet-few = accepted-few w p sheet-accepted
 
   -- so that codes tell its states apart
   pub sheet-codes : length (decisionSizes p) ≤ 16
-  sheet-codes = rw (length-map (p .costs) length) sheet-short
+  sheet-codes = rw (length-map (p .costs) length) (edition-few w p sheet-accepted)
 
   pub sheet-small : All (λ s. s ≤ 16) (decisionSizes p)
   sheet-small = all-map (λ s h. h .1) (decisionSizes p) sheet-sized
 
-  pub sheet-lawful : Lawful (decisionSizes p) (orderOf p)
-  sheet-lawful = cost-lawful p sheet-short (sheet-accepted .decision-sizes)
+  pub sheet-lawful : Lawful (decisionSizes p) o
+  sheet-lawful = edition-lawful w p sheet-accepted
 
   pub sheet-at-least : All (λ s. 1 ≤ s) (decisionSizes p)
   sheet-at-least = all-map (λ s h. h .0) (decisionSizes p) sheet-sized
 
   module _ (k : ℕ) (b : Buffers) (room : 2 ≤ length (b .queue)) (held limit : ℕ) where
     -- an accepted call's run ends
-    pub call-done : (survivors : List Assignment) × (ending : Ending) × (s : State) × (runOf p k b held limit ≡ ended ending s)
-        × Done p (orderOf p) k limit survivors (length (b .queue) / 2) ending s × FromOffers p (offersOf held (b .store)) ending survivors
+    pub call-done : (survivors : List Assignment) × (ending : Ending) × (s : State) × (runOf p o k b held limit ≡ ended ending s)
+        × Done p o k limit survivors (length (b .queue) / 2) ending s × FromOffers p (offersOf held (b .store)) ending survivors
     unfolding runOf
-    call-done = listing-done p (orderOf p) sheet-lawful (accepted-present edition1 p sheet-accepted) sheet-at-least k limit
+    call-done = listing-done p o sheet-lawful (accepted-present (editionOf w) p sheet-accepted) sheet-at-least k limit
         (length (b .queue) / 2) (length (b .store) / 2) (omega arith) (offersOf held (b .store))
 
     -- and demand 3 holds of it
-    pub run-demand3 : (ending : Ending) × (s : State) × (runOf p k b held limit ≡ ended ending s)
-        × Demand3 p (orderOf p) k b held limit ending (countsOf s) (buffersAfter (orderOf p) b s) (s .struck)
+    pub run-demand3 : (ending : Ending) × (s : State) × (runOf p o k b held limit ≡ ended ending s)
+        × Demand3 p o k b held limit ending (countsOf s) (buffersAfter o b s) (s .struck)
     run-demand3 =
         let r = call-done in (
           r .1,
           r .2,
           r .3,
-          demand3-done p (orderOf p) sheet-lawful sheet-codes sheet-small sheet-few
+          demand3-done p o sheet-lawful sheet-codes sheet-small sheet-few
               k held limit (r .0) b (r .1) (r .2) (r .4) (r .5),
         )
 
@@ -227,14 +228,15 @@ queue-given k b held resultShort e =
     let queue = none-given _ _ (values .1) in
     ltb-false (length (b .queue)) 2 (or-neither (odd (length (b .queue))) (ltb (length (b .queue)) 2) (or-neither _ _ (queue .0) .0) .1)
 
--- whatever is asked, a refusal changes nothing, and anything else is a run of which demand 3 holds
-pub promised : (sheet : List ℕ) (k : ℕ) (b : Buffers) (held limit : ℕ) (resultShort : Bool) → Promised sheet k b held limit (listingWith sheet k b held limit resultShort)
+-- whatever is asked of either edition's call, a refusal changes nothing, and anything else is a run of which demand 3 holds
+pub promised : (w : Bool) (sheet : List ℕ) (k : ℕ) (b : Buffers) (held limit : ℕ) (resultShort : Bool) → Promised (editionOf w) sheet k b held limit (listingWith (editionOf w) sheet k b held limit resultShort)
 unfolding listingWith calledOf
-promised sheet k b held limit resultShort = go (firstGiven (hostGrounds k b held resultShort)) refl (readSheet edition1 sheet) refl
+promised w sheet k b held limit resultShort = go (firstGiven (hostGrounds k b held resultShort)) refl (readSheet (editionOf w) sheet) refl
   where
-    go : (h : Option ℕ) → firstGiven (hostGrounds k b held resultShort) ≡ h → (r : Read Plant) → readSheet edition1 sheet ≡ r → Promised sheet k b held limit (listingWith sheet k b held limit resultShort)
+    go : (h : Option ℕ) → firstGiven (hostGrounds k b held resultShort) ≡ h → (r : Read Plant) → readSheet (editionOf w) sheet ≡ r
+        → Promised (editionOf w) sheet k b held limit (listingWith (editionOf w) sheet k b held limit resultShort)
     go (some n) q r e = rw (listingWith, q) refl
     go none q (Read.refused n) e = rw (listingWith, q, e) refl
     go none q (got p end) e =
-        let t = run-demand3 sheet p end e k b (queue-given k b held resultShort q) held limit in
+        let t = run-demand3 w sheet p end e k b (queue-given k b held resultShort q) held limit in
         rw (listingWith, q, e, t .2) (p, end, e, t .3)

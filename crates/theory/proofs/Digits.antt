@@ -5,7 +5,7 @@ use mathlib.Core.Bool.{_&&_}
 use mathlib.Core.List.{List, [], _∷_, _++_, append-nil}
 use Prim.Native.Nat.{ℕ, zero, suc, _+_, _-_, _*_, _/_, _%_, _^_, _≤_, _<_}
 use native.Mathlib.Omega.{arith}
-use native.Mathlib.Nat.{one-le-pow, pow-succ', pow-zero, mul-assoc, add-mul, zero-mul, suc-mul, mul-add-div-right, mul-add-mod-self-right, mod-lt, mod-one, mod-eq-of-lt, sub-zero, suc-sub-suc, zero-div, zero-mod, zero-add, suc-add, lt-irrefl, div-div-eq-div-mul}
+use native.Mathlib.Nat.{one-le-pow, mul-mod-left, pow-succ', pow-zero, mul-assoc, add-mul, zero-mul, suc-mul, mul-add-div-right, mul-add-mod-self-right, mod-lt, mod-one, mod-eq-of-lt, sub-zero, suc-sub-suc, zero-div, zero-mod, zero-add, suc-add, lt-irrefl, div-div-eq-div-mul}
 use native.Mathlib.Numerals.{add-one}
 use native.Mathlib.Decide.{decLt}
 use lib.Seq.{drop-cons}
@@ -211,6 +211,14 @@ horner-number b zero n (d ∷ ds) h = absurd (omega arith)
 horner-number b (suc k) n (d ∷ ds) h =
     let e : n * b ^ suc k ≡ n * b * b ^ k = rw (pow-succ' b k) (sym (mul-assoc n b (b ^ k))) in
     rw (suc-sub-suc k (length ds), e) (omega (arith, horner-number b k (n * b + d) ds (omega arith), add-mul (n * b) d (b ^ k)))
+
+-- a number of few digits at many places ends in zeros
+pub number-low : (b k j : ℕ) (ds : List ℕ) → length ds + j ≤ k → number b k ds % b ^ j ≡ 0
+number-low b k j ds short =
+    let parts : b ^ (k - length ds) ≡ b ^ (k - length ds - j) * b ^ j = ap (λ (i : ℕ). b ^ i) (omega arith) ∙ pow-add b (k - length ds - j) j in
+    let whole : number b k ds ≡ horner b 0 ds * b ^ (k - length ds - j) * b ^ j =
+    omega (arith, horner-number b k 0 ds (omega arith), zero-mul (b ^ k)) ∙ ap (λ (i : ℕ). horner b 0 ds * i) parts ∙ sym (mul-assoc (horner b 0 ds) (b ^ (k - length ds - j)) (b ^ j)) in
+    rw whole (mul-mod-left (horner b 0 ds * b ^ (k - length ds - j)) (b ^ j))
 
 -- of two numbers one is less, or they are equal
 pub trichotomy : (x y : ℕ) → (x < y) ⊎ ((x ≡ y) ⊎ (y < x))

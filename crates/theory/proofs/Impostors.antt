@@ -7,7 +7,7 @@ use Prim.Native.Nat.{ℕ, _+_, _-_, _/_, _≤_, _<_}
 use native.Mathlib.Omega.{arith}
 use lib.ListN.{length, getD, replicate, List·getD-eq-default}
 use Rattle.model.specs.Lists.{Begins}
-use Rattle.model.specs.Sheet.{Plant, decisionSizes, sizes}
+use Rattle.model.specs.Sheet.{Plant, edition1, decisionSizes, sizes}
 use Rattle.model.specs.Assignment.{Fits}
 use Rattle.model.specs.Consistency.{holdsAt, literalHolds, clauseHolds, allHold}
 use Rattle.model.specs.Order.{Order, Entry, orderOf, product}
@@ -73,7 +73,7 @@ abbrev third : Entry
 third = record { code = 0x1100000000000000; figure = 6 }
 
 module _ {k : ℕ} {before : Buffers} {held limit : ℕ} {e : Ending} {c : Counts} {after : Buffers} {struck : Bool}
-    (d : Demand3 smallPlant (orderOf smallPlant) k before held limit e c after struck) where
+    (d : Demand3 smallPlant (orderOf edition1 smallPlant) k before held limit e c after struck) where
   -- its lists begin these three
   begins-three : {xs : List Entry} → runList (c .listed) after ≡ xs → Begins xs (first ∷ second ∷ third ∷ [])
   begins-three {xs} h = rw (h, small-whole) at (d .begins)

@@ -17,7 +17,7 @@ use Rattle.model.specs.Consistency.{Tested, consistent, inconsistent, test}
 use Rattle.model.specs.Conflict.{Reduced, conflict, reduce}
 use Rattle.model.specs.Order.{Order, orderOf}
 use Rattle.model.specs.Listing.{State, Ending, enough, all, full, Next, ended, more, Checked, checked, brokenOff, checkOffers, firstUnresolved, resolving, branching, leaveOff, listedOne, mostTested, putChildren, learn, judge, expand, remove, step, run, start, enoughSteps, listing}
-use Rattle.model.specs.Calls.{refused, answered, Buffers, Counts, ran, unfinished, Answer, Called, firstGiven, hostGrounds, offersOf, calledOf, runOf, listingWith, exportedOf, exportCall}
+use Rattle.model.specs.Calls.{refused, answered, Buffers, Counts, ran, unfinished, Answer, Called, firstGiven, hostGrounds, offersOf, calledOf, runOf, listingWith, exportedOf, exportWith, exportCall}
 use Rattle.model.specs.Examples.{Settings, lists, lent, call, whole, ranWith, plain, tail, small, both, three}
 use Rattle.theory.specs.LastState.{formerRemove, formerStep, formerRun, formerRunOf, formerCall, formerExport, LeavesEmpty, CallLeavesEmpty, EndingChange, AnswerChange, CallChange, ExportChange}
 use Rattle.theory.proofs.Run.{differ}
@@ -296,12 +296,12 @@ module _ (sheet : List ℕ) (k : ℕ) (b : Buffers) (held limit : ℕ) (resultSh
 
   module _ (fit : firstGiven (hostGrounds k b held resultShort) ≡ none) (p : Plant) (end : ℕ) (says : readSheet edition1 sheet ≡ got p end) where
     -- the accepted call's run
-    run-of-wins : runOf p k b held limit ≡ allWins (formerRunOf p k b held limit)
+    run-of-wins : runOf p (orderOf edition1 p) k b held limit ≡ allWins (formerRunOf p k b held limit)
     unfolding runOf listing formerRunOf
     run-of-wins = go (checkOffers p limit [] (offersOf held (b .store)) 0) refl
       where
-        go : (c : Checked) → checkOffers p limit [] (offersOf held (b .store)) 0 ≡ c → runOf p k b held limit ≡ allWins (formerRunOf p k b held limit)
-        go (checked survivors used) q = rw (runOf, listing, formerRunOf, q) (run-wins p (orderOf p) k (length (b .queue) / 2) (length (b .store) / 2) limit (enoughSteps (decisionSizes p)) (start (decisionSizes p) survivors used))
+        go : (c : Checked) → checkOffers p limit [] (offersOf held (b .store)) 0 ≡ c → runOf p (orderOf edition1 p) k b held limit ≡ allWins (formerRunOf p k b held limit)
+        go (checked survivors used) q = rw (runOf, listing, formerRunOf, q) (run-wins p (orderOf edition1 p) k (length (b .queue) / 2) (length (b .store) / 2) limit (enoughSteps (decisionSizes p)) (start (decisionSizes p) survivors used))
         go (brokenOff survivors used) q = rw (runOf, listing, formerRunOf, q) refl
 
     -- where the queue was left empty, it ended 'enough'
@@ -310,7 +310,7 @@ module _ (sheet : List ℕ) (k : ℕ) (b : Buffers) (held limit : ℕ) (resultSh
     call-enough l e s h =
         let one : l .plant ≡ p = cc (l .says) in
         let there : formerRunOf (l .plant) k b held limit ≡ ended e s = rw one h in
-        left-enough (l .plant) (orderOf (l .plant)) k (length (b .queue) / 2) (length (b .store) / 2) limit (start (decisionSizes (l .plant)) (l .survivors) (l .used)) (l .leaves)
+        left-enough (l .plant) (orderOf edition1 (l .plant)) k (length (b .queue) / 2) (length (b .store) / 2) limit (start (decisionSizes (l .plant)) (l .survivors) (l .used)) (l .leaves)
         (enoughSteps (decisionSizes (l .plant))) e s (rw (formerRunOf, l .offers) at there)
 
     -- where it ended 'enough' with an empty queue, that was left by the k-th state
@@ -327,7 +327,7 @@ module _ (sheet : List ℕ) (k : ℕ) (b : Buffers) (held limit : ℕ) (resultSh
           fit = fit;
           says = says;
           offers = q;
-          leaves = enough-left p (orderOf p) k (length (b .queue) / 2) (length (b .store) / 2) limit (enoughSteps (decisionSizes p)) (start (decisionSizes p) survivors used) s
+          leaves = enough-left p (orderOf edition1 p) k (length (b .queue) / 2) (length (b .store) / 2) limit (enoughSteps (decisionSizes p)) (start (decisionSizes p) survivors used) s
               (omega (arith, k-given k b held resultShort fit)) (rw (formerRunOf, q) at h) empty;
         }
         go (brokenOff survivors used) q = let same : ended Ending.spent (start (decisionSizes p) survivors used) ≡ ended enough s = rw (formerRunOf, q) at h in differ (cc)
@@ -347,24 +347,24 @@ module _ (sheet : List ℕ) (k : ℕ) (b : Buffers) (held limit : ℕ) (resultSh
         go Ending.spent q queue r = inr (other Ending.spent q (λ d. differ (cc)), refl)
 
   -- whatever is asked, the former call and the present one agree in list, counts and every lent word; and in the ending, save where listing the k-th state left the queue empty: there 'enough' became 'all'
-  pub which-answers-change : CallChange Empty (formerCall sheet k b held limit resultShort) (listingWith sheet k b held limit resultShort)
+  pub which-answers-change : CallChange Empty (formerCall sheet k b held limit resultShort) (listingWith edition1 sheet k b held limit resultShort)
   unfolding formerCall listingWith calledOf
   which-answers-change = go (firstGiven (hostGrounds k b held resultShort)) refl (readSheet edition1 sheet) refl
     where
       go : (h : Option ℕ) → firstGiven (hostGrounds k b held resultShort) ≡ h → (r : Read Plant) → readSheet edition1 sheet ≡ r
-          → CallChange Empty (formerCall sheet k b held limit resultShort) (listingWith sheet k b held limit resultShort)
+          → CallChange Empty (formerCall sheet k b held limit resultShort) (listingWith edition1 sheet k b held limit resultShort)
       go (some n) q r e = rw (formerCall, listingWith, q) (record { answer = (refused-host n q, refl); after = refl; struck = refl })
       go none q (Read.refused n) e = rw (formerCall, listingWith, q, e) (record { answer = (refused-author n e, refl); after = refl; struck = refl })
       go none q (got p end) e = ran-on (formerRunOf p k b held limit) refl
         where
           ran-on : (x : Next) → formerRunOf p k b held limit ≡ x
-              → CallChange Empty (formerCall sheet k b held limit resultShort) (listingWith sheet k b held limit resultShort)
+              → CallChange Empty (formerCall sheet k b held limit resultShort) (listingWith edition1 sheet k b held limit resultShort)
           ran-on (ended f s) h =
-              let present : runOf p k b held limit ≡ ended (wins f (s .queue)) s = run-of-wins q p end e ∙ ap allWins h in
+              let present : runOf p (orderOf edition1 p) k b held limit ≡ ended (wins f (s .queue)) s = run-of-wins q p end e ∙ ap allWins h in
               rw (formerCall, listingWith, q, e, h, present) (record { answer = (wins f (s .queue), refl, ending-change q p end e f s h); after = refl; struck = refl })
           ran-on (more s) h =
-              let present : runOf p k b held limit ≡ more s = run-of-wins q p end e ∙ ap allWins h in
-              let done = run-demand3 sheet p end e k b (queue-given k b held resultShort q) held limit .2 in
+              let present : runOf p (orderOf edition1 p) k b held limit ≡ more s = run-of-wins q p end e ∙ ap allWins h in
+              let done = run-demand3 false sheet p end e k b (queue-given k b held resultShort q) held limit .2 in
               differ (cc)
 
 -- ---- the export
@@ -385,7 +385,7 @@ module _ (Empty : Type 0) (result : List ℕ) (before after : Buffers) (same : a
 -- whatever is asked, the exports agree in what they return and in every lent word, save in the first result word, where listing the k-th state left the queue empty: there 1 became 2
 pub which-exports-change : (sheet : List ℕ) (k : ℕ) (b : Buffers) (held limit : ℕ) (result : List ℕ)
     → ExportChange (CallLeavesEmpty sheet k b held limit (ltb (length result) 6)) (formerExport sheet k b held limit result) (exportCall sheet k b held limit result)
-unfolding formerExport exportCall
+unfolding formerExport exportWith exportCall
 which-exports-change sheet k b held limit result =
     let change = which-answers-change sheet k b held limit (ltb (length result) 6) in
     export-change (CallLeavesEmpty sheet k b held limit (ltb (length result) 6)) result _ _ (change .after) _ _ (change .answer)

@@ -1,6 +1,7 @@
 pub mod Agreement
 pub mod BestFirst
 pub mod Bits
+pub mod Bounds
 pub mod BruteForce
 pub mod Children
 pub mod Containment
@@ -11,6 +12,7 @@ pub mod Descent
 pub mod Digits
 pub mod Every
 pub mod Fields
+pub mod Figures
 pub mod Filled
 pub mod Impostors
 pub mod LastState
@@ -43,7 +45,6 @@ pub mod TestTrials
 pub mod Value
 pub mod Whole
 pub mod Words
-pub mod WordsCost
 pub mod WordsDigits
 pub mod WordsParallel
 pub mod WordsSet

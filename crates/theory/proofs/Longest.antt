@@ -1,6 +1,6 @@
 -- No accepted sheet is longer than the longest, and a sheet's bytes up to one more than that decide what it is read as. Assumes nothing.
 use mathlib.Core.Path.{_≡_, refl, ap, subst}
-use mathlib.Core.Bool.{Bool, true, false}
+use mathlib.Core.Bool.{Bool, true, false, _&&_}
 use mathlib.Core.Option.{Option, none, some}
 use mathlib.Core.List.{List, _++_, map}
 use Prim.Native.Nat.{ℕ, zero, suc, _+_, _-_, _*_, _/_, _%_, _^_, _≤_, _<_}
@@ -12,16 +12,20 @@ use lib.ListN.{length, getD, take}
 use lib.Seq.{length-take-le, take-all, getD-take}
 use borrow.Author.Tests.{le-leb, ne-eqb, leb-true}
 use Rattle.model.specs.Digits.{number}
-use Rattle.model.specs.Sheet.{Plant, Read, refused, got, bitAt, bitsAt, then, many, field, Edition, edition1, decisionsAllowed, readDecision, readState, readLiteral, readClause, readFiller, readEnd, readBody, readSheet}
+use Rattle.model.specs.Sheet.{Plant, Read, refused, got, bitAt, bitsAt, then, many, field, Edition, edition1, edition2, decisionsAllowed, readFigure, readDecision, readState, readLiteral, readClause, readFiller, readEnd, readBody, readSheet}
 use Rattle.model.specs.Calls.{firstGiven, Buffers, hostGrounds, listingWith, listingCall}
 use Rattle.model.specs.Text.{wantedStates, programBuffers, trialLimit, leadingText}
 use Rattle.theory.specs.Longest.{headBits, decisionBits, stateBits, literalBits, clauseBits, variableBits, fieldBits, longestSheet, decidingBytes}
 use Rattle.theory.proofs.Sheet.{field-got, allowed-most, accepted-any}
 
--- the number that the specification gives
+-- the numbers that the specification gives
 pub longest-edition1 : longestSheet edition1 ≡ 11356
 unfolding longestSheet edition1
 longest-edition1 = refl
+
+pub longest-edition2 : longestSheet edition2 ≡ 10968
+unfolding longestSheet edition2
+longest-edition2 = refl
 
 -- ---- readings that are alike
 
@@ -48,6 +52,10 @@ module _ {A : Type 0} where
   test-alike true n end r s f = f refl
   test-alike false n end r s f = (refl, tt)
 
+  ban-alike : (b : Bool) (n end : ℕ) (r s : Read A) → Alike end r s → Alike {A = A} end (elim b [ true ↦ refused n | false ↦ r ]) (elim b [ true ↦ refused n | false ↦ s ])
+  ban-alike true n end r s f = (refl, tt)
+  ban-alike false n end r s f = f
+
 -- two sheets that cannot be told apart by their bits before a place, nor by whether a place up to it is within or at the end
 record SameTo (s t : List ℕ) (most : ℕ) : Type 0 where
   bit : (place : ℕ) → place < most → bitAt s place ≡ bitAt t place
@@ -69,14 +77,6 @@ module _ (s t : List ℕ) (most : ℕ) (same : SameTo s t most) where
           (elim c [ true ↦ got (number 2 w (bitsAt t w place)) (place + w) | false ↦ refused 5 ])
       go b true v e f = rw (e, f)
       go b false v e f = rw e
-
-  -- a field alone
-  field-alike : (w place : ℕ) → place + w ≤ most → Alike (place + w) (field s w place) (field t w place)
-  field-alike w place h = (field-same w place h, go (field s w place) refl)
-    where
-      go : (r : Read ℕ) → field s w place ≡ r → Within (place + w) r
-      go (refused n) e = tt
-      go (got v after) e = omega (arith, field-got s w place v after e .1)
 
   -- a field, then what is read by its value, which has the field's bound
   field-then : {B : Type 0} (w place end : ℕ) (next other : ℕ → ℕ → Read B) → place + w ≤ most
@@ -103,17 +103,22 @@ module _ (e : Edition) (s t : List ℕ) (same : SameTo s t (8 * longestSheet e))
   abbrev most : ℕ
   most = 8 * longestSheet e
 
+  figure-alike : (place : ℕ) → place + e .costBits ≤ most → Alike (place + e .costBits) (readFigure e s place) (readFigure e t place)
+  unfolding readFigure
+  figure-alike place h = field-then s t most same (e .costBits) place (place + e .costBits) _ _ h (λ c small.
+      ban-alike (e .weighed && eqb c 0) 20 (place + e .costBits) (got c (place + e .costBits)) (got c (place + e .costBits)) (refl, omega arith))
+
   decision-alike : (place : ℕ) → place + decisionBits e ≤ most → Alike (place + decisionBits e) (readDecision e s place) (readDecision e t place)
   unfolding readDecision
   decision-alike place h = field-then s t most same 4 place (place + decisionBits e) _ _ (omega arith) (λ n small.
       let all : (n + 1) * e .costBits ≤ 16 * e .costBits = mul-le-mul-right (e .costBits) (omega arith) in
-      many-alike s t most same (e .costBits) (field s (e .costBits)) (field t (e .costBits)) (field-alike s t most same (e .costBits)) (n + 1) (place + 4) (place + decisionBits e) (omega arith) h)
+      many-alike s t most same (e .costBits) (readFigure e s) (readFigure e t) figure-alike (n + 1) (place + 4) (place + decisionBits e) (omega arith) h)
 
-  state-alike : (place : ℕ) → place + stateBits ≤ most → Alike (place + stateBits) (readState e s place) (readState e t place)
+  state-alike : (place : ℕ) → place + stateBits ≤ most → Alike (place + stateBits) (readState s place) (readState t place)
   unfolding readState
   state-alike place h = field-then s t most same 4 place (place + stateBits) _ _ h (λ n small. (refl, omega arith))
 
-  literal-alike : (domains : List ℕ) (place : ℕ) → place + literalBits ≤ most → Alike (place + literalBits) (readLiteral e s domains place) (readLiteral e t domains place)
+  literal-alike : (domains : List ℕ) (place : ℕ) → place + literalBits ≤ most → Alike (place + literalBits) (readLiteral s domains place) (readLiteral t domains place)
   unfolding readLiteral
   literal-alike domains place h =
       field-then s t most same 6 place (place + literalBits) _ _ (omega arith) (λ v small.
@@ -122,26 +127,26 @@ module _ (e : Edition) (s t : List ℕ) (same : SameTo s t (8 * longestSheet e))
       field-then s t most same 4 (place + 6 + 1) (place + literalBits) _ _ (omega arith) (λ x small.
       test-alike (ltb x (getD domains v 0)) 11 (place + literalBits) _ _ (λ there. (refl, omega arith))))))
 
-  clause-alike : (domains : List ℕ) (place : ℕ) → place + clauseBits ≤ most → Alike (place + clauseBits) (readClause e s domains place) (readClause e t domains place)
+  clause-alike : (domains : List ℕ) (place : ℕ) → place + clauseBits ≤ most → Alike (place + clauseBits) (readClause s domains place) (readClause t domains place)
   unfolding readClause
   clause-alike domains place h = field-then s t most same 4 place (place + clauseBits) _ _ (omega arith) (λ n small.
-      many-alike s t most same literalBits (readLiteral e s domains) (readLiteral e t domains) (literal-alike domains) n (place + 4) (place + clauseBits) (omega arith) h)
+      many-alike s t most same literalBits (readLiteral s domains) (readLiteral t domains) (literal-alike domains) n (place + 4) (place + clauseBits) (omega arith) h)
 
-  filler-alike : (n place end : ℕ) → place + n ≤ end → end ≤ most → Alike end (readFiller e s n place) (readFiller e t n place)
+  filler-alike : (n place end : ℕ) → place + n ≤ end → end ≤ most → Alike end (readFiller s n place) (readFiller t n place)
   unfolding readFiller
   filler-alike zero place end h l = (refl, omega arith)
   filler-alike (suc n) place end h l = rw (readFiller, same .bit place (omega arith))
-      (test-alike (eqb (bitAt t place) 0) 12 end (readFiller e s n (place + 1)) (readFiller e t n (place + 1)) (λ z. filler-alike n (place + 1) end (omega arith) l))
+      (test-alike (eqb (bitAt t place) 0) 12 end (readFiller s n (place + 1)) (readFiller t n (place + 1)) (λ z. filler-alike n (place + 1) end (omega arith) l))
 
   -- the filler ends with a byte
   filler-end : (place : ℕ) → place ≤ fieldBits e → place + (8 - place % 8) % 8 ≤ most
   unfolding longestSheet
   filler-end place h = omega arith
 
-  end-alike : (p : Plant) (place : ℕ) → place ≤ fieldBits e → Alike most (readEnd e s p place) (readEnd e t p place)
+  end-alike : (p : Plant) (place : ℕ) → place ≤ fieldBits e → Alike most (readEnd s p place) (readEnd t p place)
   unfolding readEnd
   end-alike p place h =
-      then-alike most most (readFiller e s ((8 - place % 8) % 8) place) (readFiller e t ((8 - place % 8) % 8) place) _ _ (filler-alike ((8 - place % 8) % 8) place most (filler-end place h) (omega arith)) (λ zeros end l.
+      then-alike most most (readFiller s ((8 - place % 8) % 8) place) (readFiller t ((8 - place % 8) % 8) place) _ _ (filler-alike ((8 - place % 8) % 8) place most (filler-end place h) (omega arith)) (λ zeros end l.
       rw (same .ends end l) (test-alike (eqb end (8 * length t)) 13 most (got p end) (got p end) (λ z. (refl, l))))
 
   body-alike : (d n c : ℕ) → d ≤ e .most → n ≤ 32 → c ≤ 512 → Alike most (readBody e s d n c headBits) (readBody e t d n c headBits)
@@ -151,10 +156,10 @@ module _ (e : Edition) (s t : List ℕ) (same : SameTo s t (8 * longestSheet e))
       let fields : fieldBits e ≤ most = omega (arith, filler-end (fieldBits e) (omega arith)) in
       then-alike (headBits + e .most * decisionBits e) most (many (readDecision e s) d headBits) (many (readDecision e t) d headBits) _ _
       (many-alike s t most same (decisionBits e) (readDecision e s) (readDecision e t) decision-alike d headBits (headBits + e .most * decisionBits e) (omega arith) (omega arith)) (λ costs after l.
-      then-alike (variableBits e) most (many (readState e s) n after) (many (readState e t) n after) _ _
-      (many-alike s t most same stateBits (readState e s) (readState e t) state-alike n after (variableBits e) (omega arith) (omega arith)) (λ states after l.
-      then-alike (fieldBits e) most (many (readClause e s (map length costs ++ states)) c after) (many (readClause e t (map length costs ++ states)) c after) _ _
-      (many-alike s t most same clauseBits (readClause e s (map length costs ++ states)) (readClause e t (map length costs ++ states)) (clause-alike (map length costs ++ states)) c after (fieldBits e) (omega arith) fields) (λ clauses after l.
+      then-alike (variableBits e) most (many (readState s) n after) (many (readState t) n after) _ _
+      (many-alike s t most same stateBits (readState s) (readState t) state-alike n after (variableBits e) (omega arith) (omega arith)) (λ states after l.
+      then-alike (fieldBits e) most (many (readClause s (map length costs ++ states)) c after) (many (readClause t (map length costs ++ states)) c after) _ _
+      (many-alike s t most same clauseBits (readClause s (map length costs ++ states)) (readClause t (map length costs ++ states)) (clause-alike (map length costs ++ states)) c after (fieldBits e) (omega arith) fields) (λ clauses after l.
       end-alike (record { costs = costs; states = states; clauses = clauses }) after l)))
 
   sheet-alike : Alike most (readSheet e s) (readSheet e t)
@@ -203,17 +208,17 @@ module _ (e : Edition) (sheet : List ℕ) where
   ]
 
 -- and what is listed for it
-pub listing-decided : (sheet : List ℕ) (k : ℕ) (b : Buffers) (held limit : ℕ) (resultShort : Bool)
-    → listingWith (take (decidingBytes edition1) sheet) k b held limit resultShort ≡ listingWith sheet k b held limit resultShort
+pub listing-decided : (e : Edition) (sheet : List ℕ) (k : ℕ) (b : Buffers) (held limit : ℕ) (resultShort : Bool)
+    → listingWith e (take (decidingBytes e) sheet) k b held limit resultShort ≡ listingWith e sheet k b held limit resultShort
 unfolding listingWith
-listing-decided sheet k b held limit resultShort = go (firstGiven (hostGrounds k b held resultShort)) refl
+listing-decided e sheet k b held limit resultShort = go (firstGiven (hostGrounds k b held resultShort)) refl
   where
     go : (g : Option ℕ) → firstGiven (hostGrounds k b held resultShort) ≡ g
-        → listingWith (take (decidingBytes edition1) sheet) k b held limit resultShort ≡ listingWith sheet k b held limit resultShort
+        → listingWith e (take (decidingBytes e) sheet) k b held limit resultShort ≡ listingWith e sheet k b held limit resultShort
     go (some n) h = rw (listingWith, h)
-    go none h = rw (listingWith, h, first-decide edition1 sheet)
+    go none h = rw (listingWith, h, first-decide e sheet)
 
 -- and what the program `leading` prints for it
 pub text-decided : (sheet : List ℕ) → leadingText (take (decidingBytes edition1) sheet) ≡ leadingText sheet
 unfolding leadingText listingCall
-text-decided sheet = rw (leadingText, listingCall, listing-decided sheet wantedStates programBuffers 0 trialLimit false)
+text-decided sheet = rw (leadingText, listingCall, listing-decided edition1 sheet wantedStates programBuffers 0 trialLimit false)

@@ -316,9 +316,9 @@ module _ (e : Edition) (p : Plant) where
   abbrev bytes : List ℕ
   bytes = inTurn (inTurn literalBytes) (p .clauses)
 
-  plant-accepted : All (All (λ c. c < 2 ^ (e .costBits))) (p .costs) → firstGiven (tableGrounds e (tablesOf p)) ≡ none → Accepted e p × (decisionsAllowed e (length (p .costs)) ≡ true)
+  plant-accepted : All (All (λ c. c < 2 ^ (e .costBits))) (p .costs) → (e .weighed ≡ true → All (All (λ c. 1 ≤ c)) (p .costs)) → firstGiven (tableGrounds e (tablesOf p)) ≡ none → Accepted e p × (decisionsAllowed e (length (p .costs)) ≡ true)
   unfolding tableGrounds fieldsFit
-  plant-accepted small h =
+  plant-accepted small weights h =
       let (fit, h) = none-given (not (fieldsFit (tablesOf p))) 17 _ h in
       let (allowed, h) = none-given (not (decisionsAllowed e (length (p .costs)))) 7 _ h in
       let (few, h) = none-given (not (leb (length (p .states)) 32)) 8 _ h in
@@ -338,6 +338,7 @@ module _ (e : Edition) (p : Plant) where
           decision-sizes = image-all length Sized (p .costs) (all-left Sized (map length (p .costs)) (p .states) all-sized);
           state-sizes = all-right Sized (map length (p .costs)) (p .states) all-sized;
           costs = small;
+          weights = weights;
           literals = all-zip (λ c. length c ≤ 15) (All (Present (sizes p))) (p .clauses) all-short (turns-all (Present (sizes p)) (p .clauses) (rw (literals-turns (p .clauses)) at all-there));
         },
         not-false _ allowed,
@@ -360,12 +361,16 @@ module _ (e : Edition) (p : Plant) where
       (given-none (not (leb (length (p .clauses)) 512)) 9 _ (rw (le-leb (length (p .clauses)) 512 (ok .clauses)))
       (each-none (literalGrounds (sizes p)) (literals bytes) (all-map (present-none (sizes p)) (literals bytes) all-there)))))
 
--- tables within the rules hold a plant within them
-pub tables-accepted : (e : Edition) (t : Tables) → Below (2 ^ (e .costBits)) (t .costs) → lengthsAgree t ≡ true → firstGiven (tableGrounds e t) ≡ none → Accepted e (plantOf t) × (decisionsAllowed e (length (plantOf t .costs)) ≡ true)
-tables-accepted e t small agreeing h =
-    let back : tablesOf (plantOf t) ≡ t = tables-back t agreeing in
-    let rows : Below (2 ^ (e .costBits)) (tablesOf (plantOf t) .costs) = subst (λ (u : Tables). Below (2 ^ (e .costBits)) (u .costs)) (sym back) small in
-    plant-accepted e (plantOf t) (turns-all (λ c. c < 2 ^ (e .costBits)) (plantOf t .costs) rows) (rw back h)
+-- tables within the rules hold a plant within them; the widths and the weights are no rule of tables
+pub tables-accepted : (e : Edition) (t : Tables) → Below (2 ^ (e .costBits)) (t .costs) → (e .weighed ≡ true → All (λ c. 1 ≤ c) (t .costs)) → lengthsAgree t ≡ true → firstGiven (tableGrounds e t) ≡ none
+    → Accepted e (plantOf t) × (decisionsAllowed e (length (plantOf t .costs)) ≡ true)
+tables-accepted e t small weights agreeing h = plant-accepted e (plantOf t) (each (λ c. c < 2 ^ (e .costBits)) small) (λ w. each (λ c. 1 ≤ c) (weights w)) (rw back h)
+  where
+    back : tablesOf (plantOf t) ≡ t
+    back = tables-back t agreeing
+
+    each : (P : ℕ → Type 0) → All P (t .costs) → All (All P) (plantOf t .costs)
+    each P a = turns-all P (plantOf t .costs) (subst (λ (u : Tables). All P (u .costs)) (sym back) a)
 
 -- and the tables of a plant within the rules are within them
 pub accepted-tables : (e : Edition) (p : Plant) → Accepted e p → decisionsAllowed e (length (p .costs)) ≡ true → (lengthsAgree (tablesOf p) ≡ true) × (firstGiven (tableGrounds e (tablesOf p)) ≡ none)

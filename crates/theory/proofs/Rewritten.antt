@@ -9,14 +9,14 @@ use lib.Seq.{take-all}
 use borrow.Author.Tests.{eqb-true}
 use Rattle.model.specs.Lists.{inTurn}
 use Rattle.model.specs.Digits.{digits}
-use Rattle.model.specs.Sheet.{Plant, Read, got, bitAt, bitsAt, then, many, field, Edition, decisionsAllowed, readDecision, readState, readLiteral, readClause, readFiller, readEnd, readBody, readSheet}
+use Rattle.model.specs.Sheet.{Plant, Read, got, bitAt, bitsAt, then, many, field, Edition, decisionsAllowed, readFigure, readDecision, readState, readLiteral, readClause, readFiller, readEnd, readBody, readSheet}
 use Rattle.model.specs.Tables.{decisionWritten, stateWritten, literalWritten, clauseWritten, bodyWritten, plantWritten, packed, sheetOf}
 use Rattle.theory.specs.Digits.{Below}
 use Rattle.theory.specs.Puts.{bitsOf}
 use Rattle.theory.proofs.Bits.{bits-length, bits-at, bits-packed, packed-filler}
 use Rattle.theory.proofs.Digits.{digits-length, digits-made}
 use Rattle.theory.proofs.Fields.{at-below, at-length, at-split}
-use Rattle.theory.proofs.Sheet.{then-got, rule-got, field-got}
+use Rattle.theory.proofs.Sheet.{then-got, rule-got, field-got, figure-got}
 
 -- from a place up to another the sheet holds these bits
 record Holds (sheet : List ℕ) (place : ℕ) (bits : List ℕ) (after : ℕ) : Type 0 where
@@ -79,19 +79,19 @@ module _ (e : Edition) (sheet : List ℕ) where
   decision-rewrites : Rewrites sheet (readDecision e sheet) (decisionWritten e)
   unfolding readDecision
   decision-rewrites place costs after h =
-      let (n, at, p, q) = then-got (field sheet 4 place) (λ n after. many (field sheet (e .costBits)) (n + 1) after) costs after h in
-      let (l, held) = many-rewrites sheet (field sheet (e .costBits)) (digits 2 (e .costBits)) (field-rewrites sheet (e .costBits)) (n + 1) at costs after q in
+      let (n, at, p, q) = then-got (field sheet 4 place) (λ n after. many (readFigure e sheet) (n + 1) after) costs after h in
+      let (l, held) = many-rewrites sheet (readFigure e sheet) (digits 2 (e .costBits)) (λ place c after h. field-rewrites sheet (e .costBits) place c after (figure-got e sheet place c after h .0)) (n + 1) at costs after q in
       let is : length costs - 1 ≡ n = omega arith in
       rw is (holds-join (digits 2 4 n) (inTurn (digits 2 (e .costBits)) costs) (field-rewrites sheet 4 place n at p) held)
 
-  state-rewrites : Rewrites sheet (readState e sheet) stateWritten
+  state-rewrites : Rewrites sheet (readState sheet) stateWritten
   unfolding readState
   state-rewrites place size after h =
       let (n, at, p, q) = then-got (field sheet 4 place) (λ n after. got (n + 1) after) size after h in
       let is : n + 1 - 1 ≡ n = omega arith in
       holds-got stateWritten (n + 1) size place at after q (rw is (field-rewrites sheet 4 place n at p))
 
-  literal-rewrites : (domains : List ℕ) → Rewrites sheet (readLiteral e sheet domains) literalWritten
+  literal-rewrites : (domains : List ℕ) → Rewrites sheet (readLiteral sheet domains) literalWritten
   unfolding readLiteral
   literal-rewrites domains place l after h =
       let (v, at, p, q) = then-got (field sheet 6 place) _ l after h in
@@ -103,15 +103,15 @@ module _ (e : Edition) (sheet : List ℕ) where
       (holds-join (digits 2 6 v) (digits 2 1 s ++ digits 2 4 x) (field-rewrites sheet 6 place v at p)
       (holds-join (digits 2 1 s) (digits 2 4 x) (field-rewrites sheet 1 at s at′ p′) (field-rewrites sheet 4 at′ x at″ p″)))
 
-  clause-rewrites : (domains : List ℕ) → Rewrites sheet (readClause e sheet domains) clauseWritten
+  clause-rewrites : (domains : List ℕ) → Rewrites sheet (readClause sheet domains) clauseWritten
   unfolding readClause
   clause-rewrites domains place c after h =
       let (n, at, p, q) = then-got (field sheet 4 place) _ c after h in
-      let (l, held) = many-rewrites sheet (readLiteral e sheet domains) literalWritten (literal-rewrites domains) n at c after q in
+      let (l, held) = many-rewrites sheet (readLiteral sheet domains) literalWritten (literal-rewrites domains) n at c after q in
       rw l (holds-join (digits 2 4 n) (inTurn literalWritten c) (field-rewrites sheet 4 place n at p) held)
 
   -- the filler is zeros
-  filler-holds : (n place zeros end : ℕ) → readFiller e sheet n place ≡ got zeros end → Holds sheet place (replicate n 0) end
+  filler-holds : (n place zeros end : ℕ) → readFiller sheet n place ≡ got zeros end → Holds sheet place (replicate n 0) end
   unfolding readFiller bitsAt
   filler-holds zero place zeros end h = let g : place ≡ end = cc in rw (← g) (holds-none place)
   filler-holds (suc n) place zeros end h =
@@ -120,10 +120,10 @@ module _ (e : Edition) (sheet : List ℕ) where
       record { ends = omega (arith, rest .ends); same = rw (bitsAt, eqb-true (bitAt sheet place) 0 bit, rest .same) }
 
   -- fewer than eight of them, up to the sheet's end
-  end-holds : (p : Plant) (place : ℕ) (q : Plant) (end : ℕ) → readEnd e sheet p place ≡ got q end → (p ≡ q) × Holds sheet place (replicate ((8 - place % 8) % 8) 0) (8 * length sheet)
+  end-holds : (p : Plant) (place : ℕ) (q : Plant) (end : ℕ) → readEnd sheet p place ≡ got q end → (p ≡ q) × Holds sheet place (replicate ((8 - place % 8) % 8) 0) (8 * length sheet)
   unfolding readEnd
   end-holds p place q end h =
-      let (zeros, last, f, g) = then-got (readFiller e sheet ((8 - place % 8) % 8) place) _ q end h in
+      let (zeros, last, f, g) = then-got (readFiller sheet ((8 - place % 8) % 8) place) _ q end h in
       let (whole, g) = rule-got (eqb last (8 * length sheet)) 13 _ q end g in
       ((cc), rw (← eqb-true last (8 * length sheet) whole) (filler-holds ((8 - place % 8) % 8) place zeros last f))
 
@@ -134,10 +134,10 @@ module _ (e : Edition) (sheet : List ℕ) where
   body-fills d s c place p end h =
       let (rows, at, f, h) = then-got (many (readDecision e sheet) d place) _ p end h in
       let (rows-are, rows-held) = many-rewrites sheet (readDecision e sheet) (decisionWritten e) decision-rewrites d place rows at f in
-      let (states, at′, f, h) = then-got (many (readState e sheet) s at) _ p end h in
-      let (states-are, states-held) = many-rewrites sheet (readState e sheet) stateWritten state-rewrites s at states at′ f in
-      let (clauses, at″, f, h) = then-got (many (readClause e sheet (map length rows ++ states)) c at′) _ p end h in
-      let (clauses-are, clauses-held) = many-rewrites sheet (readClause e sheet (map length rows ++ states)) clauseWritten (clause-rewrites (map length rows ++ states)) c at′ clauses at″ f in
+      let (states, at′, f, h) = then-got (many (readState sheet) s at) _ p end h in
+      let (states-are, states-held) = many-rewrites sheet (readState sheet) stateWritten state-rewrites s at states at′ f in
+      let (clauses, at″, f, h) = then-got (many (readClause sheet (map length rows ++ states)) c at′) _ p end h in
+      let (clauses-are, clauses-held) = many-rewrites sheet (readClause sheet (map length rows ++ states)) clauseWritten (clause-rewrites (map length rows ++ states)) c at′ clauses at″ f in
       let (is-p, filler) = end-holds (record { costs = rows; states = states; clauses = clauses }) at″ p end h in
       let last-two = holds-join (inTurn stateWritten states) (inTurn clauseWritten clauses) states-held clauses-held in
       rw (← is-p) (

@@ -1,13 +1,14 @@
 -- The bytes shown are right: a consistent test's, those of each state of a list, and that there is only one way to show an assignment. Assumes nothing.
 use mathlib.Core.Path.{_≡_, refl, sym, ap, _∙_}
 use mathlib.Core.Logic.{inl, inr}
+use mathlib.Core.Bool.{Bool}
 use mathlib.Core.List.{List, [], _∷_, _++_, append-assoc}
 use Prim.Native.Nat.{ℕ, zero, suc, _+_, _-_, _*_, _≤_, _<_}
 use native.Mathlib.Omega.{arith}
 use lib.ListN.{length, getD, take, drop, replicate, length-append, length-map, length-replicate}
 use lib.Seq.{take-at}
 use Rattle.model.specs.Lists.{All, inTurn}
-use Rattle.model.specs.Sheet.{Plant, edition1, decisionSizes, sizes}
+use Rattle.model.specs.Sheet.{Plant, editionOf, decisionSizes, sizes}
 use Rattle.model.specs.Assignment.{Assignment, Valid, full}
 use Rattle.model.specs.Consistency.{consistent, test}
 use Rattle.model.specs.Calls.{stateBytes, valueBytes}
@@ -16,6 +17,7 @@ use Rattle.theory.specs.Digits.{Lex}
 use Rattle.theory.specs.Plant.{Accepted}
 use Rattle.theory.specs.Consistency.{VariablesPresent}
 use Rattle.theory.specs.Shown.{Shows, Each}
+use Rattle.theory.proofs.Value.{edition-few}
 use Rattle.theory.proofs.Agreement.{fits-length}
 use Rattle.theory.proofs.Lists.{in-turn-length}
 use Rattle.theory.proofs.Puts.{drop-past}
@@ -74,9 +76,8 @@ module _ (p : Plant) (a : Assignment) where
       record { values = f; satisfies = s; first = test-first p present limit a valid used f t e; are = rw (fits-length (sizes p) f (s .fits)) }
 
 -- an accepted plant has a byte for each of its variables
-pub accepted-few : (p : Plant) → Accepted edition1 p → length (sizes p) ≤ stateBytes
-unfolding edition1
-accepted-few p ok = omega (arith, length-append (decisionSizes p) (p .states), length-map (p .costs) length, ok .decisions, ok .states)
+pub accepted-few : (w : Bool) (p : Plant) → Accepted (editionOf w) p → length (sizes p) ≤ stateBytes
+accepted-few w p ok = omega (arith, length-append (decisionSizes p) (p .states), length-map (p .costs) length, edition-few w p ok, ok .states)
 
 module _ (p : Plant) (few : length (sizes p) ≤ stateBytes) where
   -- an assignment is shown in 48 bytes

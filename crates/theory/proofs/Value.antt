@@ -1,4 +1,4 @@
--- The best value of a variable by any comparison: there is one, it is found value by value, and a word has it digit by digit. By cost it is the model's cheapest value. Assumes nothing.
+-- The best value of a variable by any comparison: there is one, it is found value by value, and a word has it digit by digit. By an edition's comparison it is the model's. Assumes nothing.
 use mathlib.Core.Path.{_≡_, refl, sym, _∙_}
 use mathlib.Core.Logic.{inl, inr, _↔_}
 use mathlib.Core.Bool.{Bool, true, false}
@@ -13,15 +13,15 @@ use lib.Seq.{getD-take, getD-set-same, getD-set-other, length-take-le, take-leng
 use borrow.Author.Tests.{ltb-true, ltb-false}
 use Rattle.model.specs.Lists.{All}
 use Rattle.model.specs.Digits.{digits, number}
-use Rattle.model.specs.Sheet.{Plant, edition1, readSheet, got}
+use Rattle.model.specs.Sheet.{Plant, edition1, edition2, editionOf, readSheet, got}
 use Rattle.model.specs.Assignment.{code}
-use Rattle.model.specs.Order.{lower, cheapestOf, cheapest, orderOf}
+use Rattle.model.specs.Order.{better, lower, bestOf, bestValue, orderOf}
 use Rattle.theory.specs.Digits.{Below}
 use Rattle.theory.specs.Plant.{Accepted}
-use Rattle.theory.specs.Value.{Compares, BestValue, CheapestValue, BestValues, CheapestValues}
+use Rattle.theory.specs.Value.{Compares, Better, BestValue, BestValues, PreferredValues}
 use Rattle.theory.proofs.Lists.{all-at, all-map, all-image, all-set}
 use Rattle.theory.proofs.Digits.{trichotomy, digits-length, digits-below, digits-zero, digits-made, number-below, number-digits, number-digit, number-same, number-set, zero-at}
-use Rattle.theory.proofs.Sheet.{accepted}
+use Rattle.theory.proofs.Sheet.{accepted-any}
 
 -- ---- one row
 
@@ -104,32 +104,46 @@ module _ {Better : ℕ → ℕ → Type 0} (c : Compares Better) (row : List ℕ
         | inr m ↦ elim m [ inl e ↦ b (rw e at k) | inr m ↦ absurd (omega arith) ]
       ]
 
--- ---- the model's cheapest value
+-- ---- the model's best value
 
--- the cheapest of a row's first values
-cheapest-of-first : (row : List ℕ) (n : ℕ) → n < length row → CheapestValue (take (suc n) row) (cheapestOf row (suc n))
-cheapest-of-first row zero l = go (ltb (getD row 0 0) (getD row 0 0))
+-- an edition's comparison is one
+pub better-compares : (w : Bool) → Compares (Better w)
+better-compares false = less-compares
+better-compares true = turned-compares less-compares
+
+-- the model's test says which is better
+pub better-true : (w : Bool) (a b : ℕ) → better w a b ≡ true → Better w a b
+better-true false a b e = ltb-true a b e
+better-true true a b e = ltb-true b a e
+
+pub better-false : (w : Bool) (a b : ℕ) → better w a b ≡ false → Better w a b → ⊥
+better-false false a b e h = omega (arith, ltb-false a b e)
+better-false true a b e h = omega (arith, ltb-false b a e)
+
+-- the best of a row's first values
+best-of-first : (w : Bool) (row : List ℕ) (n : ℕ) → n < length row → BestValue (Better w) (take (suc n) row) (bestOf w row (suc n))
+best-of-first w row zero l = go (better w (getD row 0 0) (getD row 0 0))
   where
-    go : (b : Bool) → CheapestValue (take 1 row) (lower b 0 0)
-    go true = first-best less-compares row l
-    go false = first-best less-compares row l
-cheapest-of-first row (suc n) l = rw (add-one (suc n)) at (go (ltb (getD row (suc n) 0) (getD row old 0)) refl (cheapest-of-first row n (omega arith)))
+    go : (b : Bool) → BestValue (Better w) (take 1 row) (lower b 0 0)
+    go true = first-best (better-compares w) row l
+    go false = first-best (better-compares w) row l
+best-of-first w row (suc n) l = rw (add-one (suc n)) at (go (better w (getD row (suc n) 0) (getD row old 0)) refl (best-of-first w row n (omega arith)))
   where
     old : ℕ
-    old = cheapestOf row (suc n)
+    old = bestOf w row (suc n)
 
-    go : (b : Bool) → ltb (getD row (suc n) 0) (getD row old 0) ≡ b → CheapestValue (take (suc n) row) old → CheapestValue (take (suc n + 1) row) (lower b (suc n) old)
-    go true e h = better-next less-compares row (suc n) old l h (ltb-true (getD row (suc n) 0) (getD row old 0) e)
-    go false e h = no-better-next less-compares row (suc n) old l h (λ k. omega (arith, ltb-false (getD row (suc n) 0) (getD row old 0) e))
+    go : (b : Bool) → better w (getD row (suc n) 0) (getD row old 0) ≡ b → BestValue (Better w) (take (suc n) row) old → BestValue (Better w) (take (suc n + 1) row) (lower b (suc n) old)
+    go true e h = better-next (better-compares w) row (suc n) old l h (better-true w (getD row (suc n) 0) (getD row old 0) e)
+    go false e h = no-better-next (better-compares w) row (suc n) old l h (better-false w (getD row (suc n) 0) (getD row old 0) e)
 
--- it is in the domain, no value costs less, and every lower value costs more
-pub cheapest-best : (row : List ℕ) → 0 < length row → CheapestValue row (cheapest row)
-cheapest-best [] h = absurd (omega arith)
-cheapest-best (c ∷ row) h = rw (take-length row) at (cheapest-of-first (c ∷ row) (length row) (omega arith))
+-- it is in the domain, no value is better, and every lower value is worse
+pub value-best : (w : Bool) (row : List ℕ) → 0 < length row → BestValue (Better w) row (bestValue w row)
+value-best w [] h = absurd (omega arith)
+value-best w (c ∷ row) h = rw (take-length row) at (best-of-first w (c ∷ row) (length row) (omega arith))
 
--- the cheapest values of rows, row by row
-pub cheapest-values : (rows : List (List ℕ)) → All (λ row. 0 < length row) rows → (v : ℕ) → v < length rows → CheapestValue (getD rows v []) (getD (map cheapest rows) v 0)
-cheapest-values rows z v h = rw (List·getD-map cheapest rows v []) (cheapest-best (getD rows v []) (all-at [] _ rows z v h))
+-- the best values of rows, row by row
+pub values-best : (w : Bool) (rows : List (List ℕ)) → All (λ row. 0 < length row) rows → (v : ℕ) → v < length rows → BestValue (Better w) (getD rows v []) (getD (map (bestValue w) rows) v 0)
+values-best w rows z v h = rw (List·getD-map (bestValue w) rows v []) (value-best w (getD rows v []) (all-at [] _ rows z v h))
 
 -- ---- the word
 
@@ -200,37 +214,48 @@ code-hands-in rows values e s b best = record {
 
 -- ---- what a run is handed in
 
--- on every accepted plant:
-module _ (p : Plant) (a : Accepted edition1 p) where
-  -- for every decision variable the order's preferred value is its cheapest value, the lowest on a tie
-  pub preferred-cheapest : (v : ℕ) → v < length (p .costs) → CheapestValue (getD (p .costs) v []) (getD (orderOf p .preferred) v 0)
-  unfolding orderOf
-  preferred-cheapest = cheapest-values (p .costs) (all-map (λ row z. z .0) (p .costs) (a .decision-sizes))
+-- the edition's figures are weights exactly where it is said so
+pub edition-weighed : (w : Bool) → editionOf w .weighed ≡ w
+unfolding edition1 edition2
+edition-weighed false = refl
+edition-weighed true = refl
 
-  preferred-below : Below 16 (orderOf p .preferred)
-  unfolding orderOf
-  preferred-below = all-image cheapest _ (p .costs) (all-map (λ row s. omega (arith, cheapest-best row (s .0) .within, s .1)) (p .costs) (a .decision-sizes))
+-- at most sixteen decision variables
+pub edition-few : (w : Bool) (p : Plant) → Accepted (editionOf w) p → length (p .costs) ≤ 16
+unfolding edition1 edition2
+edition-few false p a = a .decisions
+edition-few true p a = omega (arith, a .decisions)
 
-  preferred-length : length (orderOf p .preferred) ≡ length (p .costs)
+-- on every accepted plant of either edition:
+module _ (w : Bool) (p : Plant) (a : Accepted (editionOf w) p) where
+  -- for every decision variable the order's preferred value is its best value, the lowest on a tie
+  pub preferred-best : (v : ℕ) → v < length (p .costs) → BestValue (Better w) (getD (p .costs) v []) (getD (orderOf (editionOf w) p .preferred) v 0)
   unfolding orderOf
-  preferred-length = length-map (p .costs) cheapest
+  preferred-best = rw (edition-weighed w) (values-best w (p .costs) (all-map (λ row z. z .0) (p .costs) (a .decision-sizes)))
+
+  preferred-below : Below 16 (orderOf (editionOf w) p .preferred)
+  unfolding orderOf
+  preferred-below = rw (edition-weighed w) (all-image (bestValue w) _ (p .costs) (all-map (λ row s. omega (arith, value-best w row (s .0) .within, s .1)) (p .costs) (a .decision-sizes)))
+
+  preferred-length : length (orderOf (editionOf w) p .preferred) ≡ length (p .costs)
+  unfolding orderOf
+  preferred-length = length-map (p .costs) (bestValue (editionOf w .weighed))
 
   -- the code of the preferred values, of which best states are made, hands them in
-  pub preferred-handed : CheapestValues p (code (orderOf p .preferred))
-  unfolding edition1
-  preferred-handed = code-hands-in (p .costs) (orderOf p .preferred) preferred-length (a .decisions) preferred-below preferred-cheapest
+  pub preferred-handed : PreferredValues w p (code (orderOf (editionOf w) p .preferred))
+  preferred-handed = code-hands-in (p .costs) (orderOf (editionOf w) p .preferred) preferred-length (edition-few w p a) preferred-below preferred-best
 
   -- and nothing else does
-  pub handed-is : (word : ℕ) → CheapestValues p word → word ≡ code (orderOf p .preferred)
+  pub handed-is : (word : ℕ) → PreferredValues w p word → word ≡ code (orderOf (editionOf w) p .preferred)
   handed-is word c = word-unique c preferred-handed
 
   -- so a digit handed in is a preferred value
-  pub digit-preferred : (word : ℕ) → CheapestValues p word → (v : ℕ) → getD (digits 16 16 word) v 0 ≡ getD (orderOf p .preferred) v 0
-  unfolding edition1
-  digit-preferred word c v = rw (handed-is word c) (number-digit 16 16 v (orderOf p .preferred) (omega arith) preferred-below (omega (arith, preferred-length, a .decisions)))
+  pub digit-preferred : (word : ℕ) → PreferredValues w p word → (v : ℕ) → getD (digits 16 16 word) v 0 ≡ getD (orderOf (editionOf w) p .preferred) v 0
+  digit-preferred word c v = rw (handed-is word c) (number-digit 16 16 v (orderOf (editionOf w) p .preferred) (omega arith) preferred-below (omega (arith, preferred-length, edition-few w p a)))
 
--- request L3, on every accepted sheet: a word hands in, for every decision variable, its cheapest value, the lowest on a tie, exactly if it is the code of the preferred values
-pub handed-exactly : (sheet : List ℕ) (p : Plant) (end : ℕ) → readSheet edition1 sheet ≡ got p end → (word : ℕ) → CheapestValues p word ↔ (word ≡ code (orderOf p .preferred))
-handed-exactly sheet p end h word =
-    let a = accepted sheet p end h .0 in
-    (handed-is p a word, λ e. rw e (preferred-handed p a))
+-- requests L3 and L6, on every accepted sheet of either edition: a word hands in, for every decision variable, its best value, the lowest on a tie, exactly if it is the code of the preferred values
+pub handed-exactly : (w : Bool) (sheet : List ℕ) (p : Plant) (end : ℕ) → readSheet (editionOf w) sheet ≡ got p end → (word : ℕ)
+    → PreferredValues w p word ↔ (word ≡ code (orderOf (editionOf w) p .preferred))
+handed-exactly w sheet p end h word =
+    let a = accepted-any (editionOf w) sheet p end h .0 in
+    (handed-is w p a word, λ e. rw e (preferred-handed w p a))

@@ -7,7 +7,7 @@ use Prim.Native.Nat.{ℕ}
 use Rattle.model.specs.Lists.{Mem, All, Pairs, keep}
 use Rattle.model.specs.Sheet.{Plant, decisionSizes}
 use Rattle.model.specs.Assignment.{Fits, full}
-use Rattle.model.specs.Order.{Order, Before, every, isConsistent, leadingStates}
+use Rattle.model.specs.Order.{before, Order, Before, every, isConsistent, leadingStates}
 use Rattle.theory.specs.Order.{Lawful}
 use Rattle.theory.proofs.Lists.{all-map, all-zip, all-keep, at-member, pairs-map, pairs-keep, pairs-zip, some-keep, kept}
 use Rattle.theory.proofs.Every.{every-fits, every-all, every-apart}
@@ -27,12 +27,12 @@ module _ (p : Plant) (o : Order) where
   -- sorting neither adds
   sorted-from : (f : List ℕ) → Mem f (leadingStates p o) → Mem f (unsorted p)
   unfolding leadingStates
-  sorted-from f m = rw append-nil at (all-unsome (o .before) [] (λ g. f ≡ g) (unsorted p) m)
+  sorted-from f m = rw append-nil at (all-unsome (before o) [] (λ g. f ≡ g) (unsorted p) m)
 
   -- nor loses any
   sorted-to : (f : List ℕ) → Mem f (unsorted p) → Mem f (leadingStates p o)
   unfolding leadingStates
-  sorted-to f m = all-some (o .before) [] (λ g. f ≡ g) (unsorted p) (rw append-nil m)
+  sorted-to f m = all-some (before o) [] (λ g. f ≡ g) (unsorted p) (rw append-nil m)
 
   -- each member is a full assignment within the domains, and consistent
   pub leading-sound : (f : List ℕ) → Mem f (leadingStates p o) → Fits (decisionSizes p) f × (isConsistent p (full f) ≡ true)
@@ -48,7 +48,7 @@ module _ (p : Plant) (o : Order) where
     -- each member comes before each later one, so none is there twice
     pub leading-ascending : Pairs (Before o) (leadingStates p o)
     unfolding leadingStates
-    leading-ascending = all-ascending (o .before) [] (l .transitive) (unsorted p)
+    leading-ascending = all-ascending (before o) [] (l .transitive) (unsorted p)
         (rw append-nil (pairs-map (λ f g c. either-first (decisionSizes p) o l f g (c .0) (c .1) (c .2)) (unsorted p)
         (pairs-zip (Fits (decisionSizes p)) _≢_ (unsorted p) (unsorted-fits p) (pairs-keep _≢_ _ (every (decisionSizes p)) (every-apart (decisionSizes p)))))) tt
 

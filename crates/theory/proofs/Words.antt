@@ -19,7 +19,7 @@ use Rattle.model.specs.Digits.{number, digits}
 use Rattle.model.specs.Assignment.{Assignment, Under, Valid, bit, nibble, maskOf, valuesOf, optional, optionals, assignmentOf, allZero, nibblesFit, maskFits, valuesFit, wellFormed, isFull}
 use Rattle.theory.specs.Digits.{Below, horner}
 use Rattle.theory.specs.Words.{Words}
-use Rattle.theory.proofs.Digits.{digits-length, digits-below, number-below, digits-number, number-take, zero-from, number-zeros, horner-number}
+use Rattle.theory.proofs.Digits.{number-low, digits-length, digits-below, number-below, digits-number, number-take, zero-from, number-zeros, horner-number}
 use Rattle.theory.proofs.Agreement.{valid-length}
 use Rattle.theory.proofs.Lists.{and-both}
 
@@ -43,12 +43,7 @@ mask-below a = number-below 2 64 (map bit a) (omega arith) (bits-below a)
 
 -- its bits below the first sixteen are zero
 pub mask-low : (n : Assignment) → length n ≤ 16 → maskOf n % 2 ^ 48 ≡ 0
-mask-low n short =
-    let long : length (map bit n) ≡ length n = length-map n bit in
-    let parts : 2 ^ (64 - length (map bit n)) ≡ 2 ^ (16 - length n) * 2 ^ 48 = ap (λ (i : ℕ). 2 ^ i) (omega arith) ∙ pow-add 2 (16 - length n) 48 in
-    let whole : maskOf n ≡ horner 2 0 (map bit n) * 2 ^ (16 - length n) * 2 ^ 48 =
-    omega (arith, horner-number 2 64 0 (map bit n) (omega arith)) ∙ ap (λ (i : ℕ). horner 2 0 (map bit n) * i) parts ∙ sym (mul-assoc (horner 2 0 (map bit n)) (2 ^ (16 - length n)) (2 ^ 48)) in
-    rw whole (mul-mod-left (horner 2 0 (map bit n) * 2 ^ (16 - length n)) (2 ^ 48))
+mask-low n short = number-low 2 64 48 (map bit n) (omega (arith, length-map n bit))
 
 -- the values of an assignment with values below 16 are a word
 pub values-below : (a : Assignment) → All (Under 16) a → valuesOf a < 2 ^ 64

@@ -18,7 +18,7 @@ use Rattle.theory.proofs.Filled.{filled-take}
 use Rattle.theory.proofs.Longest.{no-longer}
 use Rattle.theory.proofs.PlantTables.{none-given, plant-back, tables-agree, tables-back, tables-accepted, accepted-tables, front-back}
 use Rattle.theory.proofs.Rewritten.{rewritten}
-use Rattle.theory.proofs.Sheet.{accepted-any}
+use Rattle.theory.proofs.Sheet.{accepted-any, no-weights}
 use Rattle.theory.proofs.Written.{written, sheet-length}
 
 -- ---- what is written
@@ -46,7 +46,7 @@ module _ (t : Tables) (agree : lengthsAgree t ≡ true) (fit : firstGiven (table
     sheet-read : readSheet edition1 (tableSheet t) ≡ got (plantOf t) (8 * length (tableSheet t))
     unfolding edition1
     sheet-read =
-        let (ok, allowed) = tables-accepted edition1 t small agree fit in
+        let (ok, allowed) = tables-accepted edition1 t small no-weights agree fit in
         written edition1 (plantOf t) (omega arith) (omega arith) ok allowed
 
     tables-read : readTables (tableSheet t) ≡ answered t

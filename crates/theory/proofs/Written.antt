@@ -1,6 +1,6 @@
 -- Every plant within the rules has a sheet that is read as it, and one of these sheets has the longest's length. Assumes nothing.
 use mathlib.Core.Path.{_≡_, refl, ap}
-use mathlib.Core.Bool.{Bool, true, false}
+use mathlib.Core.Bool.{Bool, true, false, _&&_}
 use mathlib.Core.List.{List, [], _∷_, _++_, map}
 use Prim.Native.Nat.{ℕ, zero, suc, _+_, _-_, _*_, _/_, _%_, _^_, _≤_, _<_}
 use native.Mathlib.Omega.{arith}
@@ -8,12 +8,12 @@ use native.Mathlib.Nat.{mul-comm, min-le-left, add-zero}
 use native.Mathlib.Decide.{decLt}
 use lib.Dec.{ltb, leb, eqb}
 use lib.ListN.{length, getD, take, drop, replicate, length-append, length-take, length-map, length-replicate, List·getD-eq-default}
-use lib.Pow.{pow-pos}
+use lib.Pow.{pow-lt}
 use lib.Seq.{getD-take, getD-drop}
-use borrow.Author.Tests.{le-leb, lt-ltb, eq-eqb}
+use borrow.Author.Tests.{le-leb, lt-ltb, eq-eqb, ne-eqb}
 use Rattle.model.specs.Lists.{All, inTurn}
 use Rattle.model.specs.Digits.{number, digits}
-use Rattle.model.specs.Sheet.{Literal, Plant, sizes, Read, refused, got, bitAt, bitsAt, then, many, field, Edition, edition1, decisionsAllowed, readDecision, readState, readLiteral, readClause, readFiller, readEnd, readBody, readSheet}
+use Rattle.model.specs.Sheet.{Literal, Plant, sizes, Read, refused, got, bitAt, bitsAt, then, many, field, Edition, edition1, edition2, decisionsAllowed, readFigure, readDecision, readState, readLiteral, readClause, readFiller, readEnd, readBody, readSheet}
 use Rattle.model.specs.Tables.{decisionWritten, stateWritten, literalWritten, clauseWritten, bodyWritten, plantWritten, packed, sheetOf}
 use Rattle.model.specs.Examples.{tail, small}
 use Rattle.model.specs.Edges.{smallPlant}
@@ -130,22 +130,41 @@ module _ (sheet : List ℕ) where
       (first, has-from (place + 1) ds (λ i h. let e : place + 1 + i ≡ place + suc i = omega arith in rw e (f (suc i) (omega arith))) (omega arith))
 
 module _ (e : Edition) (sheet : List ℕ) where
-  decision-reads : (costs : List ℕ) → Sized (length costs) → All (λ c. c < 2 ^ (e .costBits)) costs → Reads sheet (readDecision e sheet) (decisionWritten e costs) costs
+  -- a cost, or a weight that is not zero
+  figure-reads : (c : ℕ) → c < 2 ^ (e .costBits) → (e .weighed ≡ true → 1 ≤ c) → Reads sheet (readFigure e sheet) (digits 2 (e .costBits) c) c
+  unfolding readFigure
+  figure-reads c small weight = made-reads sheet (field sheet (e .costBits)) (λ c after. elim (e .weighed && eqb c 0) [ true ↦ refused 20 | false ↦ got c after ]) (digits 2 (e .costBits) c) c c
+      (field-reads sheet (e .costBits) c small) (λ place. rw (go (e .weighed) refl))
+    where
+      go : (w : Bool) → e .weighed ≡ w → (e .weighed && eqb c 0) ≡ false
+      go false h = rw h
+      go true h = rw h (ne-eqb c 0 (omega (arith, weight h)))
+
+  decision-reads : (costs : List ℕ) → Sized (length costs) → All (λ c. c < 2 ^ (e .costBits)) costs → (e .weighed ≡ true → All (λ c. 1 ≤ c) costs) → Reads sheet (readDecision e sheet) (decisionWritten e costs) costs
   unfolding readDecision
-  decision-reads costs sized small = then-reads sheet (field sheet 4) (λ n after. many (field sheet (e .costBits)) (n + 1) after)
+  decision-reads costs sized small weights = then-reads sheet (field sheet 4) (λ n after. many (readFigure e sheet) (n + 1) after)
       (digits 2 4 (length costs - 1)) (inTurn (digits 2 (e .costBits)) costs) (length costs - 1) costs (field-reads sheet 4 (length costs - 1) (omega (arith, sized .1)))
       (go (length costs - 1 + 1) (omega (arith, sized .0)))
     where
-      go : (n : ℕ) → n ≡ length costs → Reads sheet (many (field sheet (e .costBits)) n) (inTurn (digits 2 (e .costBits)) costs) costs
-      go n is = rw is (many-reads sheet (field sheet (e .costBits)) (digits 2 (e .costBits)) costs (all-map (λ c l. field-reads sheet (e .costBits) c l) costs small))
+      each : (cs : List ℕ) → All (λ c. c < 2 ^ (e .costBits)) cs → (e .weighed ≡ true → All (λ c. 1 ≤ c) cs) → All (λ c. Reads sheet (readFigure e sheet) (digits 2 (e .costBits) c) c) cs
+      each [] s w = tt
+      each (c ∷ cs) s w = (figure-reads c (s .0) (λ h. w h .0), each cs (s .1) (λ h. w h .1))
 
-  state-reads : (size : ℕ) → Sized size → Reads sheet (readState e sheet) (stateWritten size) size
+      go : (n : ℕ) → n ≡ length costs → Reads sheet (many (readFigure e sheet) n) (inTurn (digits 2 (e .costBits)) costs) costs
+      go n is = rw is (many-reads sheet (readFigure e sheet) (digits 2 (e .costBits)) costs (each costs small weights))
+
+  rows-read : (rows : List (List ℕ)) → All (λ row. Sized (length row)) rows → All (All (λ c. c < 2 ^ (e .costBits))) rows → (e .weighed ≡ true → All (All (λ c. 1 ≤ c)) rows)
+      → All (λ row. Reads sheet (readDecision e sheet) (decisionWritten e row) row) rows
+  rows-read [] sized small weights = tt
+  rows-read (row ∷ rows) sized small weights = (decision-reads row (sized .0) (small .0) (λ w. weights w .0), rows-read rows (sized .1) (small .1) (λ w. weights w .1))
+
+  state-reads : (size : ℕ) → Sized size → Reads sheet (readState sheet) (stateWritten size) size
   unfolding readState
   state-reads size sized =
       let is : size - 1 + 1 ≡ size = omega (arith, sized .0) in
       made-reads sheet (field sheet 4) (λ n after. got (n + 1) after) (digits 2 4 (size - 1)) (size - 1) size (field-reads sheet 4 (size - 1) (omega (arith, sized .1))) (λ place. rw is)
 
-  literal-reads : (domains : List ℕ) → length domains < 2 ^ 6 → All Sized domains → (l : Literal) → Present domains l → Reads sheet (readLiteral e sheet domains) (literalWritten l) l
+  literal-reads : (domains : List ℕ) → length domains < 2 ^ 6 → All Sized domains → (l : Literal) → Present domains l → Reads sheet (readLiteral sheet domains) (literalWritten l) l
   unfolding readLiteral
   literal-reads domains few sized l there =
       let size = all-at 0 Sized domains sized (l .variable) (there .variable) in
@@ -155,20 +174,20 @@ module _ (e : Edition) (sheet : List ℕ) where
       (made-reads sheet (field sheet 4) _ (digits 2 4 (l .value)) (l .value) l (field-reads sheet 4 (l .value) (omega (arith, there .value, size .1)))
       (λ place. rw (lt-ltb (l .value) (getD domains (l .variable) 0) (there .value))))))
 
-  clause-reads : (domains : List ℕ) → length domains < 2 ^ 6 → All Sized domains → (c : List Literal) → length c ≤ 15 → All (Present domains) c → Reads sheet (readClause e sheet domains) (clauseWritten c) c
+  clause-reads : (domains : List ℕ) → length domains < 2 ^ 6 → All Sized domains → (c : List Literal) → length c ≤ 15 → All (Present domains) c → Reads sheet (readClause sheet domains) (clauseWritten c) c
   unfolding readClause
-  clause-reads domains few sized c short there = then-reads sheet (field sheet 4) (λ n after. many (readLiteral e sheet domains) n after) (digits 2 4 (length c)) (inTurn literalWritten c) (length c) c
+  clause-reads domains few sized c short there = then-reads sheet (field sheet 4) (λ n after. many (readLiteral sheet domains) n after) (digits 2 4 (length c)) (inTurn literalWritten c) (length c) c
       (field-reads sheet 4 (length c) (omega arith))
-      (many-reads sheet (readLiteral e sheet domains) literalWritten c (all-map (literal-reads domains few sized) c there))
+      (many-reads sheet (readLiteral sheet domains) literalWritten c (all-map (literal-reads domains few sized) c there))
 
-  filler-reads : (n place : ℕ) → ((i : ℕ) → place ≤ i → i < place + n → bitAt sheet i ≡ 0) → readFiller e sheet n place ≡ got 0 (place + n)
+  filler-reads : (n place : ℕ) → ((i : ℕ) → place ≤ i → i < place + n → bitAt sheet i ≡ 0) → readFiller sheet n place ≡ got 0 (place + n)
   unfolding readFiller
   filler-reads zero place f = rw (add-zero place)
   filler-reads (suc n) place f =
       let is : place + suc n ≡ place + 1 + n = omega arith in
       rw (readFiller, f place (omega arith) (omega arith), is) (filler-reads n (place + 1) (λ i h l. f i (omega arith) (omega arith)))
 
-  end-reads : (p : Plant) (place : ℕ) → ((i : ℕ) → place ≤ i → i < 8 * length sheet → bitAt sheet i ≡ 0) → length sheet ≡ (place + 7) / 8 → readEnd e sheet p place ≡ got p (8 * length sheet)
+  end-reads : (p : Plant) (place : ℕ) → ((i : ℕ) → place ≤ i → i < 8 * length sheet → bitAt sheet i ≡ 0) → length sheet ≡ (place + 7) / 8 → readEnd sheet p place ≡ got p (8 * length sheet)
   unfolding readEnd then
   end-reads p place f l =
       let is : place + (8 - place % 8) % 8 ≡ 8 * length sheet = omega arith in
@@ -183,7 +202,7 @@ module _ (e : Edition) (sheet : List ℕ) where
   sizes-few p few ok = omega (arith, ok .decisions, ok .states, length-append (map length (p .costs)) (p .states), length-map (p .costs) length)
 
   -- what follows the counts, if the end after it is right
-  body-reads : (p : Plant) (x : Read Plant) (place end : ℕ) → e .most < 2 ^ 5 → Accepted e p → Has sheet place (bodyWritten e p) → place + length (bodyWritten e p) ≡ end → readEnd e sheet p end ≡ x
+  body-reads : (p : Plant) (x : Read Plant) (place end : ℕ) → e .most < 2 ^ 5 → Accepted e p → Has sheet place (bodyWritten e p) → place + length (bodyWritten e p) ≡ end → readEnd sheet p end ≡ x
       → readBody e sheet (length (p .costs)) (length (p .states)) (length (p .clauses)) place ≡ x
   unfolding readBody
   body-reads p x place end few ok h is f =
@@ -192,16 +211,16 @@ module _ (e : Edition) (sheet : List ℕ) where
       let clauses : List ℕ = inTurn clauseWritten (p .clauses) in
       let last : place + length rows + length states + length clauses ≡ end = omega (arith, length-append rows (states ++ clauses), length-append states clauses) in
       then-comes sheet (many (readDecision e sheet) (length (p .costs))) _ rows (states ++ clauses) (p .costs) x place
-      (many-reads sheet (readDecision e sheet) (decisionWritten e) (p .costs) (all-map (λ c g. decision-reads c (g .0) (g .1)) (p .costs) (all-zip _ _ (p .costs) (ok .decision-sizes) (ok .costs)))) h (λ h.
-      then-comes sheet (many (readState e sheet) (length (p .states))) _ states clauses (p .states) x (place + length rows)
-      (many-reads sheet (readState e sheet) stateWritten (p .states) (all-map state-reads (p .states) (ok .state-sizes))) h (λ h.
-      last-comes sheet (many (readClause e sheet (sizes p)) (length (p .clauses))) _ clauses (p .clauses) x (place + length rows + length states)
-      (many-reads sheet (readClause e sheet (sizes p)) clauseWritten (p .clauses) (all-map (λ c g. clause-reads (sizes p) (sizes-few p few ok) (sizes-sized p ok) c (g .0) (g .1)) (p .clauses) (ok .literals))) h
+      (many-reads sheet (readDecision e sheet) (decisionWritten e) (p .costs) (rows-read (p .costs) (ok .decision-sizes) (ok .costs) (ok .weights))) h (λ h.
+      then-comes sheet (many (readState sheet) (length (p .states))) _ states clauses (p .states) x (place + length rows)
+      (many-reads sheet (readState sheet) stateWritten (p .states) (all-map state-reads (p .states) (ok .state-sizes))) h (λ h.
+      last-comes sheet (many (readClause sheet (sizes p)) (length (p .clauses))) _ clauses (p .clauses) x (place + length rows + length states)
+      (many-reads sheet (readClause sheet (sizes p)) clauseWritten (p .clauses) (all-map (λ c g. clause-reads (sizes p) (sizes-few p few ok) (sizes-sized p ok) c (g .0) (g .1)) (p .clauses) (ok .literals))) h
       (rw last f)))
 
   -- a sheet that has the plant's bits, if the end after them is right
   plant-reads : (p : Plant) (x : Read Plant) → e .number < 2 ^ 8 → e .most < 2 ^ 5 → Accepted e p → decisionsAllowed e (length (p .costs)) ≡ true
-      → Has sheet 0 (plantWritten e p) → readEnd e sheet p (length (plantWritten e p)) ≡ x → readSheet e sheet ≡ x
+      → Has sheet 0 (plantWritten e p) → readEnd sheet p (length (plantWritten e p)) ≡ x → readSheet e sheet ≡ x
   unfolding readSheet plantWritten
   plant-reads p x small few ok allowed h f =
       let edition : List ℕ = digits 2 8 (e .number) in
@@ -295,30 +314,31 @@ alike-length : {A : Type 0} (bits : A → List ℕ) (n w : ℕ) (a : A) → leng
 alike-length bits n w a h = omega (arith, in-turn-length bits w (replicate n a) (all-replicate (λ x. length (bits x) ≡ w) n a h), mul-comm w n, ap (λ (m : ℕ). w * m) (length-replicate n a))
 
 -- the first literal is present where there is a decision variable of sixteen values
-first-present : (n : ℕ) (rest : List ℕ) → 1 ≤ n → Present (map length (replicate n (replicate {A = ℕ} 16 0)) ++ rest) firstLiteral
+first-present : (n : ℕ) (rest : List ℕ) → 1 ≤ n → Present (map length (replicate n (replicate {A = ℕ} 16 1)) ++ rest) firstLiteral
 first-present zero rest h = absurd (omega arith)
 first-present (suc n) rest h = record { variable = omega arith; sign = omega arith; value = omega arith }
 
 module _ (e : Edition) where
-  full-accepted : (d s c : ℕ) → 1 ≤ d → d ≤ e .most → s ≤ 32 → c ≤ 512 → Accepted e (fullPlant d s c)
+  full-accepted : (d s c : ℕ) → 1 ≤ e .costBits → 1 ≤ d → d ≤ e .most → s ≤ 32 → c ≤ 512 → Accepted e (fullPlant d s c)
   unfolding fullPlant
-  full-accepted d s c h hd hs hc = record {
-    decisions = omega (arith, length-replicate d (replicate {A = ℕ} 16 0));
+  full-accepted d s c wide h hd hs hc = record {
+    decisions = omega (arith, length-replicate d (replicate {A = ℕ} 16 1));
     states = omega (arith, length-replicate {A = ℕ} s 1);
     clauses = omega (arith, length-replicate c (replicate 15 firstLiteral));
-    decision-sizes = all-replicate (λ row. Sized (length row)) d (replicate 16 0) (omega arith, omega arith);
+    decision-sizes = all-replicate (λ row. Sized (length row)) d (replicate 16 1) (omega arith, omega arith);
     state-sizes = all-replicate Sized s 1 (omega arith, omega arith);
-    costs = all-replicate (All (λ c. c < 2 ^ (e .costBits))) d (replicate 16 0) (all-replicate (λ c. c < 2 ^ (e .costBits)) 16 0 (pow-pos (e .costBits)));
+    costs = all-replicate (All (λ c. c < 2 ^ (e .costBits))) d (replicate 16 1) (all-replicate (λ c. c < 2 ^ (e .costBits)) 16 1 (pow-lt {i = 0} wide));
+    weights = λ w. all-replicate (All (λ c. 1 ≤ c)) d (replicate 16 1) (all-replicate (λ c. 1 ≤ c) 16 1 (omega arith));
     literals = all-replicate (λ ls. (length ls ≤ 15) × All (Present (sizes (fullPlant d s c))) ls) c (replicate 15 firstLiteral)
         (omega arith, all-replicate (Present (sizes (fullPlant d s c))) 15 firstLiteral (first-present d (replicate s 1) h));
   }
 
   full-allowed : (d s c : ℕ) → 1 ≤ d → d ≤ e .most → decisionsAllowed e (length (fullPlant d s c .costs)) ≡ true
   unfolding decisionsAllowed fullPlant
-  full-allowed d s c one most = rw (length-replicate d (replicate {A = ℕ} 16 0), decisionsAllowed, le-leb 1 d one, le-leb d (e .most) most)
+  full-allowed d s c one most = rw (length-replicate d (replicate {A = ℕ} 16 1), decisionsAllowed, le-leb 1 d one, le-leb d (e .most) most)
 
-  row-bits : length (decisionWritten e (replicate 16 0)) ≡ decisionBits e
-  row-bits = omega (arith, length-append (digits 2 4 15) (inTurn (digits 2 (e .costBits)) (replicate 16 0)), digits-length 2 4 15, alike-length (digits 2 (e .costBits)) 16 (e .costBits) 0 (digits-length 2 (e .costBits) 0))
+  row-bits : length (decisionWritten e (replicate 16 1)) ≡ decisionBits e
+  row-bits = omega (arith, length-append (digits 2 4 15) (inTurn (digits 2 (e .costBits)) (replicate 16 1)), digits-length 2 4 15, alike-length (digits 2 (e .costBits)) 16 (e .costBits) 1 (digits-length 2 (e .costBits) 1))
 
   clause-bits : length (clauseWritten (replicate 15 firstLiteral)) ≡ clauseBits
   unfolding digits
@@ -326,21 +346,25 @@ module _ (e : Edition) where
 
   full-bits : (d s c : ℕ) → length (plantWritten e (fullPlant d s c)) ≡ headBits + d * decisionBits e + s * stateBits + c * clauseBits
   unfolding fullPlant
-  full-bits d s c = omega (arith, written-length e (fullPlant d s c), alike-length (decisionWritten e) d (decisionBits e) (replicate 16 0) row-bits, alike-length stateWritten s stateBits 1 (digits-length 2 4 0), alike-length clauseWritten c clauseBits (replicate 15 firstLiteral) clause-bits)
+  full-bits d s c = omega (arith, written-length e (fullPlant d s c), alike-length (decisionWritten e) d (decisionBits e) (replicate 16 1) row-bits, alike-length stateWritten s stateBits 1 (digits-length 2 4 0), alike-length clauseWritten c clauseBits (replicate 15 firstLiteral) clause-bits)
 
   -- a sheet of the longest's length is accepted
-  pub longest-attained : e .number < 2 ^ 8 → 1 ≤ e .most → e .most < 2 ^ 5
+  pub longest-attained : e .number < 2 ^ 8 → 1 ≤ e .costBits → 1 ≤ e .most → e .most < 2 ^ 5
       → (length (sheetOf e (largestPlant e)) ≡ longestSheet e) × (readSheet e (sheetOf e (largestPlant e)) ≡ got (largestPlant e) (8 * longestSheet e))
   unfolding longestSheet
-  longest-attained small one few =
+  longest-attained small wide one few =
       let l : length (sheetOf e (largestPlant e)) ≡ longestSheet e = rw (sheet-length e (largestPlant e), full-bits (e .most) 32 512) in
-      let ok = full-accepted (e .most) 32 512 one (omega arith) (omega arith) (omega arith) in
+      let ok = full-accepted (e .most) 32 512 wide one (omega arith) (omega arith) (omega arith) in
       (l, rw l at (written e (largestPlant e) small few ok (full-allowed (e .most) 32 512 one (omega arith))))
 
--- of the first edition too
+-- of each edition too
 pub longest-attained1 : (length (sheetOf edition1 (largestPlant edition1)) ≡ longestSheet edition1) × (readSheet edition1 (sheetOf edition1 (largestPlant edition1)) ≡ got (largestPlant edition1) (8 * longestSheet edition1))
 unfolding edition1
-longest-attained1 = longest-attained edition1 (omega arith) (omega arith) (omega arith)
+longest-attained1 = longest-attained edition1 (omega arith) (omega arith) (omega arith) (omega arith)
+
+pub longest-attained2 : (length (sheetOf edition2 (largestPlant edition2)) ≡ longestSheet edition2) × (readSheet edition2 (sheetOf edition2 (largestPlant edition2)) ≡ got (largestPlant edition2) (8 * longestSheet edition2))
+unfolding edition2
+longest-attained2 = longest-attained edition2 (omega arith) (omega arith) (omega arith) (omega arith)
 
 -- the small plant's sheet is the one that the specification gives
 pub small-written : sheetOf edition1 smallPlant ≡ small

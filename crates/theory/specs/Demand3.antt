@@ -6,7 +6,7 @@ use mathlib.Core.List.{List, [], _++_, map}
 use Prim.Native.Nat.{ℕ, _+_, _*_, _/_, _≤_, _<_}
 use lib.ListN.{length, getD, drop, replicate}
 use Rattle.model.specs.Lists.{All, Begins, filled}
-use Rattle.model.specs.Sheet.{Plant, got, edition1, readSheet, decisionSizes}
+use Rattle.model.specs.Sheet.{Plant, got, Edition, readSheet, decisionSizes}
 use Rattle.model.specs.Assignment.{Assignment, code}
 use Rattle.model.specs.Conflict.{Conflict, Minimal, manifests}
 use Rattle.model.specs.Order.{Order, Before, orderOf, product, entryOf, wholeSet}
@@ -45,7 +45,7 @@ pub record Demand3 (p : Plant) (o : Order) (k : ℕ) (before : Buffers) (held li
   pub struck-spent : struck ≡ true → e ≡ Ending.spent
   -- 'spent' only where the next trial would be beyond the limit, or tested is at its greatest
   pub spent-why : e ≡ Ending.spent → (c .trials ≡ limit) ⊎ (c .tested ≡ mostTested)
-  -- each place holds the code of a full consistent assignment with its cost
+  -- each place holds the code of a full consistent assignment with its cost, or with its product
   pub states : (i : ℕ) → i < c .listed → (f : List ℕ) × Good p f × (getD (after .codes) i 0 ≡ code f) × (getD (after .costs) i 0 ≡ o .figure f)
   -- no full consistent assignment stands before the first or between neighbours: one that comes before the state at a place stands at an earlier place
   pub gapless : (i : ℕ) → i < c .listed → (f g : List ℕ) → Good p f → Good p g → getD (after .codes) i 0 ≡ code g → Before o f g
@@ -69,12 +69,12 @@ pub record Demand3 (p : Plant) (o : Order) (k : ℕ) (before : Buffers) (held li
   pub values-kept : drop (stateBytes * c .listed) (after .values) ≡ drop (stateBytes * c .listed) (before .values)
   pub queue-zero : after .queue ≡ replicate (length (before .queue)) 0
 
--- what a listing call promises of any input: a refusal changes no lent buffer; any other answer is a run with one of the four endings, of the plant that the sheet says, and demand 3 holds of it
-abbrev pub PromisedBy : List ℕ → ℕ → Buffers → (held limit : ℕ) → Answer → Buffers → Bool → Type 0
-PromisedBy sheet k before held limit (refused r) after struck = after ≡ before
-PromisedBy sheet k before held limit (answered (ran e c)) after struck =
-    (p : Plant) × (end : ℕ) × (readSheet edition1 sheet ≡ got p end) × Demand3 p (orderOf p) k before held limit e c after struck
-PromisedBy sheet k before held limit (answered unfinished) after struck = ⊥
+-- what the listing call that takes an edition promises of any input: a refusal changes no lent buffer; any other answer is a run with one of the four endings, of the plant that the sheet says, and demand 3 holds of it
+abbrev pub PromisedBy : Edition → List ℕ → ℕ → Buffers → (held limit : ℕ) → Answer → Buffers → Bool → Type 0
+PromisedBy edition sheet k before held limit (refused r) after struck = after ≡ before
+PromisedBy edition sheet k before held limit (answered (ran e c)) after struck =
+    (p : Plant) × (end : ℕ) × (readSheet edition sheet ≡ got p end) × Demand3 p (orderOf edition p) k before held limit e c after struck
+PromisedBy edition sheet k before held limit (answered unfinished) after struck = ⊥
 
-abbrev pub Promised : List ℕ → ℕ → Buffers → (held limit : ℕ) → Called → Type 0
-Promised sheet k before held limit called = PromisedBy sheet k before held limit (called .answer) (called .after) (called .struck)
+abbrev pub Promised : Edition → List ℕ → ℕ → Buffers → (held limit : ℕ) → Called → Type 0
+Promised edition sheet k before held limit called = PromisedBy edition sheet k before held limit (called .answer) (called .after) (called .struck)

@@ -35,7 +35,7 @@ unfoldable pub formerRunOf : Plant → ℕ → Buffers → ℕ → ℕ → Next
 formerRunOf p k b held limit =
     elim (checkOffers p limit [] (offersOf held (b .store)) 0) [
       | checked survivors used ↦
-          formerRun p (orderOf p) k (length (b .queue) / 2) (length (b .store) / 2) limit (enoughSteps (decisionSizes p)) (start (decisionSizes p) survivors used)
+          formerRun p (orderOf edition1 p) k (length (b .queue) / 2) (length (b .store) / 2) limit (enoughSteps (decisionSizes p)) (start (decisionSizes p) survivors used)
       | brokenOff survivors used ↦ ended Ending.spent (start (decisionSizes p) survivors used)
     ]
 
@@ -46,7 +46,7 @@ formerCall sheet k b held limit resultShort =
       | some n ↦ refusing b (byHost n)
       | none ↦ elim (readSheet edition1 sheet) [
         | Read.refused n ↦ refusing b (byAuthor n)
-        | got p end ↦ calledOf (orderOf p) b (formerRunOf p k b held limit)
+        | got p end ↦ calledOf (orderOf edition1 p) b (formerRunOf p k b held limit)
       ]
     ]
 
@@ -79,7 +79,7 @@ pub record CallLeavesEmpty (sheet : List ℕ) (k : ℕ) (b : Buffers) (held limi
   pub fit : firstGiven (hostGrounds k b held resultShort) ≡ none
   pub says : readSheet edition1 sheet ≡ got plant end
   pub offers : checkOffers plant limit [] (offersOf held (b .store)) 0 ≡ checked survivors used
-  pub leaves : LeavesEmpty plant (orderOf plant) k (length (b .queue) / 2) (length (b .store) / 2) limit (start (decisionSizes plant) survivors used)
+  pub leaves : LeavesEmpty plant (orderOf edition1 plant) k (length (b .queue) / 2) (length (b .store) / 2) limit (start (decisionSizes plant) survivors used)
 
 -- ---- how they differ
 

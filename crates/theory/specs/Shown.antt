@@ -3,7 +3,7 @@ use mathlib.Core.Path.{_≡_}
 use mathlib.Core.List.{List, [], _∷_, _++_}
 use Prim.Native.Nat.{ℕ, _-_, _<_}
 use lib.ListN.{length, getD, replicate}
-use Rattle.model.specs.Sheet.{Plant, got, edition1, readSheet, decisionSizes, sizes}
+use Rattle.model.specs.Sheet.{Plant, got, Edition, readSheet, decisionSizes, sizes}
 use Rattle.model.specs.Assignment.{Assignment, Fits, code, full}
 use Rattle.model.specs.Consistency.{Satisfies}
 use Rattle.model.specs.Calls.{Buffers, stateBytes, stateValues}
@@ -29,11 +29,11 @@ Each R (x ∷ xs) (y ∷ ys) = R x y × Each R xs ys
 abbrev pub ShownAt : Plant → Buffers → ℕ → Type 0
 ShownAt p b i = (f : List ℕ) × Fits (decisionSizes p) f × (getD (b .codes) i 0 ≡ code f) × Shows p (full f) (stateValues i b)
 
--- each of the first so many places does, for the plant that the sheet says
-pub record ShownOn (sheet : List ℕ) (listed : ℕ) (b : Buffers) : Type 0 where
+-- each of the first so many places does, for the plant that the sheet of this edition says
+pub record ShownOn (e : Edition) (sheet : List ℕ) (listed : ℕ) (b : Buffers) : Type 0 where
   pub plant : Plant
   pub end : ℕ
-  pub says : readSheet edition1 sheet ≡ got plant end
+  pub says : readSheet e sheet ≡ got plant end
   pub shown : (i : ℕ) → i < listed → ShownAt plant b i
 
 -- two lists that both have a state show the same values for it

@@ -1,6 +1,7 @@
 -- The best value of a variable by a comparison of figures, and the word that hands in each variable's. Assumes nothing: these are definitions.
 use mathlib.Core.Path.{_≡_}
 use mathlib.Core.Logic.{_⊎_}
+use mathlib.Core.Bool.{Bool, true, false}
 use mathlib.Core.List.{List, []}
 use Prim.Native.Nat.{ℕ, _^_, _≤_, _<_}
 use lib.ListN.{length, getD}
@@ -11,6 +12,11 @@ use Rattle.model.specs.Sheet.{Plant}
 pub record Compares (Better : ℕ → ℕ → Type 0) : Type 0 where
   pub asymmetric : (a b : ℕ) → Better a b → Better b a → ⊥
   pub cotransitive : (a b c : ℕ) → Better a c → Better a b ⊎ Better b c
+
+-- the comparison of an edition: of costs the lesser is better, of weights the greater
+abbrev pub Better : Bool → ℕ → ℕ → Type 0
+Better false = _<_
+Better true = λ a b. b < a
 
 -- of a row with a figure for each value of a domain: this value is in the domain, no value is better, and every lower value is worse
 pub record BestValue (Better : ℕ → ℕ → Type 0) (row : List ℕ) (value : ℕ) : Type 0 where
@@ -28,6 +34,9 @@ pub record BestValues (Better : ℕ → ℕ → Type 0) (rows : List (List ℕ))
   pub digit-best : (v : ℕ) → v < length rows → BestValue Better (getD rows v []) (getD (digits 16 16 word) v 0)
   pub rest-zero : (v : ℕ) → length rows ≤ v → getD (digits 16 16 word) v 0 ≡ 0
 
--- request L3: the word hands in, for every decision variable, its cheapest value, the lowest on a tie
+-- requests L3 and L6: the word hands in, for every decision variable, its best value: the cheapest, or the one of greatest weight, and the lowest on a tie
+abbrev pub PreferredValues : Bool → Plant → ℕ → Type 0
+PreferredValues weighed p = BestValues (Better weighed) (p .costs)
+
 abbrev pub CheapestValues : Plant → ℕ → Type 0
-CheapestValues p = BestValues _<_ (p .costs)
+CheapestValues = PreferredValues false

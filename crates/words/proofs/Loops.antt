@@ -12,7 +12,7 @@ use lib.ListN.{length, getD, take, drop, drop-of-length-le}
 use lib.Seq.{drop-cons, drop-drop, getD-take, getD-drop, length-take-le}
 use Rattle.model.specs.Digits.{digits}
 use Rattle.model.specs.Assignment.{optional, isSome, allZero, nibbleFits, nibblesFit, maskFits}
-use Rattle.model.specs.Order.{cost}
+use Rattle.model.specs.Order.{join, unit, figureOf}
 use Rattle.theory.specs.Words.{sixteens}
 use Rattle.theory.proofs.Digits.{digits-length}
 use Rattle.theory.proofs.WordsSet.{mask-beyond}
@@ -61,20 +61,21 @@ module _ (sizes : List ℕ) (d mask values v : ℕ) (short : d ≤ 16) (long : d
   pub fit-end : v ≡ d → fitFrom sizes d mask values v ≡ allZero (drop d (digits 16 16 values))
   fit-end e = rw (e, drop-of-length-le (take d sizes) {i = d} (rw (length-take-le d sizes long) (omega arith)))
 
--- ---- costs
+-- ---- figures
 
--- what the variables from v on cost
-abbrev pub costFrom : ℕ → List ℕ → List ℕ → ℕ → ℕ
-costFrom d t f v = cost (sixteens (d - v) (drop (16 * v) t)) (drop v f)
+-- the figure of the variables from v on
+abbrev pub figureFrom : Bool → ℕ → List ℕ → List ℕ → ℕ → ℕ
+figureFrom w d t f v = figureOf w (sixteens (d - v) (drop (16 * v) t)) (drop v f)
 
--- the cost at variable v, and at those after it
-pub cost-step : (d : ℕ) (t f : List ℕ) (v : ℕ) → v < d → v < length f → getD f v 0 < 16 → costFrom d t f v ≡ getD t (16 * v + getD f v 0) 0 + costFrom d t f (v + 1)
-cost-step d t f v h k l =
+-- the figure of variable v, and of those after it
+pub figure-step : (w : Bool) (d : ℕ) (t f : List ℕ) (v : ℕ) → v < d → v < length f → getD f v 0 < 16
+    → figureFrom w d t f v ≡ join w (getD t (16 * v + getD f v 0) 0) (figureFrom w d t f (v + 1))
+figure-step w d t f v h k l =
     let e : d - v ≡ suc (d - (v + 1)) = omega arith in
     let g : 16 * v + 16 ≡ 16 * (v + 1) = omega arith in
     let s : drop (suc v) f ≡ drop (v + 1) f = rw (add-one v) in
     rw (e, drop-cons f v 0 k, s, getD-take 16 (drop (16 * v) t) (getD f v 0) 0 l, getD-drop (16 * v) t (getD f v 0) 0, drop-drop 16 (16 * v) t, g)
 
--- after the last variable nothing is added
-pub cost-end : (d : ℕ) (t f : List ℕ) (v : ℕ) → v ≡ d → costFrom d t f v ≡ 0
-cost-end d t f v e = rw (e, sub-self d)
+-- after the last variable there is nothing
+pub figure-end : (w : Bool) (d : ℕ) (t f : List ℕ) (v : ℕ) → v ≡ d → figureFrom w d t f v ≡ unit w
+figure-end w d t f v e = rw (e, sub-self d)

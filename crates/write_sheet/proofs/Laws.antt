@@ -16,6 +16,7 @@ use Rattle.theory.proofs.Lists.{all-map, all-join, all-image, all-at}
 use Rattle.theory.proofs.Longest.{longest-edition1, no-longer}
 use Rattle.theory.proofs.PlantTables.{Agreed, agreed, all-turns, literals-turns, tables-back, tables-accepted}
 use Rattle.theory.proofs.Puts.{puts-then}
+use Rattle.theory.proofs.Sheet.{no-weights}
 use Rattle.theory.proofs.Written.{sheet-length, written}
 use Rattle.write_clauses.specs.Narrow.{Narrow}
 use Rattle.write_sheet.specs.Ruled.{Ruled}
@@ -111,7 +112,7 @@ module _ (t : Tables) (r : Ruled t) where
   pub ready : (n : ℕ) → Below (2 ^ 16) (t .costs) → n ≡ length (sheetOf edition1 (plantOf t)) → Fitting t × (29 + length (variablesOf (plantOf t)) + length (clausesOf (plantOf t)) ≤ 8 * n) × (8 * n < 2 ^ 64)
   unfolding edition1
   ready n small e =
-      let (ok, allowed) = tables-accepted edition1 t small (r .lengths) (r .author) in
+      let (ok, allowed) = tables-accepted edition1 t small no-weights (r .lengths) (r .author) in
       let sheet : List ℕ = sheetOf edition1 (plantOf t) in
       let fits : Fitting t = subst (λ (u : Tables). Fitting u) same (plant-fitting (plantOf t) ok (subst (λ (u : Tables). Agreed u) (sym same) (agreed t (r .lengths)))) in
       let short : length sheet ≤ 11356 = rw (← longest-edition1) (no-longer edition1 sheet (plantOf t) (8 * length sheet) (written edition1 (plantOf t) (omega arith) (omega arith) ok allowed)) in

@@ -1,7 +1,5 @@
--- `children::price` meets its contract: an entry of the table is below 65536. Assumes nothing.
-use Prim.Native.Nat.{_+_, _*_}
+-- `children::price` meets its contract: it reads the table. Assumes nothing.
 use mathlib.Core.Path.{refl}
-use native.Mathlib.Omega.{arith}
 use borrow.Author.Needs.{needs}
 use Rattle.children.proofs.price.Statement.{statement}
 use Rattle.children.proofs.price.Tie as tie
@@ -18,13 +16,10 @@ mul-result-2 c = search needs
 shared-slice-read-result : tie.Need-shared-slice-read-result
 shared-slice-read-result c = search needs
 
-cast-result : tie.Need-cast-result
-cast-result c = omega (arith, c .shared-slice-known .given (16 * c .before .args .v + c .before .args .x))
-
 returns : tie.Need-returns
-returns c = (refl, omega (arith, c .shared-slice-known .given (16 * c .before .args .v + c .before .args .x)))
+returns c = refl
 
 pub price-spec : {M : Type 1} → statement M
 price-spec =
     tie.close
-    (tie.spec mul-result add-result mul-result-2 shared-slice-read-result cast-result returns)
+    (tie.spec mul-result add-result mul-result-2 shared-slice-read-result returns)

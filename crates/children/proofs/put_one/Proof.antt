@@ -2,7 +2,9 @@
 use mathlib.Core.Path.{sym, _∙_}
 use native.Mathlib.Omega.{arith}
 use borrow.Author.Needs.{needs}
+use Rattle.model.specs.Sheet.{editionOf, decisionSizes}
 use Rattle.model.specs.Order.{orderOf}
+use Rattle.children.proofs.Numbers.{node-entry}
 use Rattle.children.proofs.Putting.{told, put-left-off, put-full, put-in}
 use Rattle.children.proofs.put_one.Statement.{statement}
 use Rattle.children.proofs.put_one.Tie as tie
@@ -25,19 +27,21 @@ entry-of-requires c κs = search needs
 push-requires : tie.Need-push-requires
 push-requires c κs = search needs
 
-add-t10 : tie.Need-add-t10
-add-t10 c = search needs
+add-t11 : tie.Need-add-t11
+add-t11 c = search needs
 
 same-length : tie.Need-same-length
 same-length c = search needs
 
 returns-3 : tie.Need-returns-3
 returns-3 c s =
+    let a = c .before .before .before .before .before .before .before .before .before .before .before .before .args .weighed in
     let w = c .before .before .before .before .before .before .before .before .before .widened in
     let t = c .before .before .before .before .before .before .before .manifests-any in
     let e = c .before .before .before .before .entry-of in
     put-in s _ (sym (told s _ _ (w .ensures) (t .ensures)) ∙ c .before .before .before .before .before .before .if1 .left) (omega arith)
-    (c .before .before .push .ensures (orderOf (s .plant)) (s .rest) (s .parent) (s .holds) (e .ensures (orderOf (s .plant)) (s .parent) (s .is .mask-is) (s .is .code-is) (s .is .cost-is)))
+    (c .before .before .push .ensures (orderOf (editionOf a) (s .plant)) (s .rest) (s .parent) (s .holds)
+    (e .ensures (decisionSizes (s .plant)) (orderOf (editionOf a) (s .plant)) (s .parent) (node-entry (s .is) .0) (node-entry (s .is) .1) (s .is .valid) (s .is .mask-is) (s .is .code-is) (s .is .figure-is)))
 
 pub put-one-spec : {M : Type 1} → statement M
 put-one-spec =
@@ -49,6 +53,6 @@ put-one-spec =
     returns-2
     entry-of-requires
     push-requires
-    add-t10
+    add-t11
     same-length
     returns-3)

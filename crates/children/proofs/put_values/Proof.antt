@@ -13,13 +13,13 @@ use Rattle.children.proofs.put_values.Statement.{statement}
 use Rattle.children.proofs.put_values.Tie as tie
 
 abbrev Inv-loop : tie.InvT-loop
-Inv-loop node v size but preferred costs queue₀ n store m entries₀ x₀ queue entries x =
+Inv-loop node v size but weighed preferred costs queue₀ n store m entries₀ x₀ queue entries x =
     (x ≤ size) × (length queue ≡ length queue₀)
-    × ((s : Step node queue₀ n store m) → Free (s .plant) (s .parent) v costs preferred → size ≡ getD (decisionSizes (s .plant)) v 0
+    × ((s : Step weighed node queue₀ n store m) → Free weighed (s .plant) (s .parent) v costs preferred → size ≡ getD (decisionSizes (s .plant)) v 0
     → Puts s (variants (s .parent) v but (valuesFrom 0 x)) queue (Put.Entries entries))
 
 abbrev μ-loop : tie.MeasureT-loop
-μ-loop node v size but preferred costs queue₀ n store m entries₀ x₀ queue entries x = size - x
+μ-loop node v size but weighed preferred costs queue₀ n store m entries₀ x₀ queue entries x = size - x
 
 loop-holds : tie.Need-loop-holds Inv-loop μ-loop
 loop-holds c = (omega arith, refl, λ s f e. put-nothing s)
@@ -34,7 +34,7 @@ enum-told : tie.Need-enum-told Inv-loop μ-loop
 enum-told c = search needs
 
 same-length : tie.Need-same-length Inv-loop μ-loop
-same-length c = c .before .before .before .before .put-value .kept .1 .1 .1 .1 .1 .1 .0 ∙ c .before .before .before .before .before .before .before .loop .inv .1
+same-length c = c .before .before .before .before .put-value .kept .1 .1 .1 .1 .1 .1 .1 .0 ∙ c .before .before .before .before .before .before .before .loop .inv .1
 
 returns : tie.Need-returns Inv-loop μ-loop
 returns c s f e =
@@ -55,7 +55,7 @@ loop-again c =
     let l = p .before .before .before in
     let a = l .before .before .before .before .args in (
       omega arith,
-      p .put-value .kept .1 .1 .1 .1 .1 .1 .0 ∙ l .loop .inv .1,
+      p .put-value .kept .1 .1 .1 .1 .1 .1 .1 .0 ∙ l .loop .inv .1,
       λ s f e.
           let so-far = l .loop .inv .2 s f e in
           next-put s (a .v) (a .but) (l .loop .x) _ _ (l .loop .inv .1) so-far _ _ (rw (c .before .more .given .1) at (p .put-value .ensures (onward s _ _ _ (l .loop .inv .1) so-far) f (omega arith))),

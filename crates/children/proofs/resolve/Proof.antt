@@ -15,12 +15,12 @@ use Rattle.children.proofs.resolve.Statement.{statement}
 use Rattle.children.proofs.resolve.Tie as tie
 
 abbrev Inv-loop : tie.InvT-loop
-Inv-loop sizes costs preferred d mask values queue₀ n store m passed₀ entries₀ v₀ queue passed entries v =
+Inv-loop sizes costs weighed preferred d mask values queue₀ n store m passed₀ entries₀ v₀ queue passed entries v =
     (v ≤ d) × (length queue ≡ length queue₀)
-    × ((s : Step passed₀ queue₀ n store m) → Tables (s .plant) d sizes costs preferred → (c : Assignment) → Words c mask values → Valid (decisionSizes (s .plant)) c → Midway s c v passed queue entries)
+    × ((s : Step weighed passed₀ queue₀ n store m) → Tables weighed (s .plant) d sizes costs preferred → (c : Assignment) → Words c mask values → Valid (decisionSizes (s .plant)) c → Midway s c v passed queue entries)
 
 abbrev μ-loop : tie.MeasureT-loop
-μ-loop sizes costs preferred d mask values queue₀ n store m passed₀ entries₀ v₀ queue passed entries v = d - v
+μ-loop sizes costs weighed preferred d mask values queue₀ n store m passed₀ entries₀ v₀ queue passed entries v = d - v
 
 loop-holds : tie.Need-loop-holds Inv-loop μ-loop
 loop-holds c = (omega arith, refl, λ s t k w valid. midway-start s k valid)
@@ -47,7 +47,7 @@ enum-told : tie.Need-enum-told Inv-loop μ-loop
 enum-told c = search needs
 
 same-length : tie.Need-same-length Inv-loop μ-loop
-same-length c = c .before .before .before .before .put-values .kept .1 .1 .1 .1 .1 .1 .0 ∙ c .before .before .before .before .before .before .before .before .before .before .before .loop .inv .1
+same-length c = c .before .before .before .before .put-values .kept .1 .1 .1 .1 .1 .1 .1 .0 ∙ c .before .before .before .before .before .before .before .before .before .before .before .loop .inv .1
 
 returns : tie.Need-returns Inv-loop μ-loop
 returns c s tables k w valid =
@@ -78,7 +78,7 @@ loop-again c =
     ⊎-elim
     (λ a. (
       omega arith,
-      ap length (a .11) ∙ a .4 .kept .1 .1 .1 .1 .1 .1 .0 ∙ l .inv .1,
+      ap length (a .11) ∙ a .4 .kept .1 .1 .1 .1 .1 .1 .1 .0 ∙ l .inv .1,
       λ s tables k w valid.
           let h = l .inv .2 s tables k w valid in
           let f = here-free s k valid tables _ _ _ _ h (l .inv .1) t _ _ _ w (y .ensures) (a .0 .taken) in

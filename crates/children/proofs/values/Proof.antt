@@ -8,7 +8,7 @@ widened-requires : tie.Need-widened-requires
 widened-requires c κs = search needs
 
 returns : tie.Need-returns
-returns c p n i = rw (c .before .widened .ensures) (words-are i)
+returns c w p n i = rw (c .before .widened .ensures) (words-are i)
 
 pub values-spec : {M : Type 1} → statement M
 values-spec = tie.close (tie.spec widened-requires returns)

@@ -14,9 +14,9 @@ same-length : tie.Need-same-length
 same-length c = search needs
 
 returns : tie.Need-returns
-returns c q limit codes costs values t tables found free =
+returns c q limit codes values t tables found free =
     let r = c .before .before .before .branch in
-    branched-is t _ (r .kept .1 .1 .1 .1 .1 .0) _ _ found free (r .ensures (removed-step t) tables) (c .put .ensures)
+    branched-is t _ (r .kept .1 .1 .1 .1 .1 .1 .0) _ _ found free (r .ensures (removed-step t) tables) (c .put .ensures)
 
 pub branch-spec : {M : Type 1} → statement M
 branch-spec = tie.close (tie.spec branch-requires put-requires same-length returns)

@@ -13,7 +13,7 @@ use Rattle.expand.proofs.expand.Tie as tie
 
 -- where the function began
 abbrev start : tie.After-values → tie.Start
-start v = v .before .before .before .before .before .before .before .before .before .before .before
+start v = v .before .before .before .before .before .before .before .before .before .before
 
 values-requires : tie.Need-values-requires
 values-requires c κs = search needs
@@ -41,14 +41,14 @@ module _ (k : tie.After-enum-told) where
   abbrev began : tie.Start
   began = start (k .before .before .before .before .before)
 
-  all-resolved : {q : Question} {limit : ℕ} {codes costs values : List ℕ} (t : Removed q limit (began .args .queue .now) (began .args .store .now) codes costs values (began .args .g) (began .args .node))
+  all-resolved : {q : Question (began .args .weighed)} {limit : ℕ} {codes values : List ℕ} (t : Removed q limit (began .args .queue .now) (began .args .store .now) codes values (began .args .g) (began .args .node))
       → firstUnresolved (t .state .store) (t .parent) ≡ none
   all-resolved t =
       let u = k .before .before in
       found-none t _ (u .before .widened .ensures) (u .before .before .before .values .ensures) (u .first-unresolved .ensures) (k .enum-told .given .1)
 
 judge-requires : tie.Need-judge-requires
-judge-requires c κs = judge-given (began (c .before .before .before .before .before .before .before .before) .pre)
+judge-requires c κs = judge-given (began (c .before .before .before .before .before .before .before) .pre)
 
 same-length : tie.Need-same-length
 same-length c = search needs
@@ -62,13 +62,10 @@ same-length-3 c = search needs
 same-length-4 : tie.Need-same-length-4
 same-length-4 c = search needs
 
-same-length-5 : tie.Need-same-length-5
-same-length-5 c = search needs
-
 returns : tie.Need-returns
 returns c =
-    let j = c .before .before .before .before .before .before .before .before .before .before in
-    let i = j .before .before .before .before .before .before .before in (
+    let j = c .before .before .before .before .before .before .before .before in
+    let i = j .before .before .before .before .before .before in (
       λ t.
           let full = removed-full (t .taken) (t .tables .tabled) (i .before .is-full .ensures) (i .if1 .taken) in
           rw (judged-is (t .taken) (all-resolved (i .before .before) (t .taken)) full) at (j .judge .ensures .0 (t .question) _ (t .tables .tabled) (t .taken) full),
@@ -78,11 +75,11 @@ returns c =
 branch-requires : tie.Need-branch-requires
 branch-requires c κs = children-given (began (c .before .before .before .before) .pre)
 
+same-length-5 : tie.Need-same-length-5
+same-length-5 c = search needs
+
 same-length-6 : tie.Need-same-length-6
 same-length-6 c = search needs
-
-same-length-7 : tie.Need-same-length-7
-same-length-7 c = search needs
 
 returns-2 : tie.Need-returns-2
 returns-2 c =
@@ -91,22 +88,22 @@ returns-2 c =
     let v = u .before .before .before in (
       λ t.
           let found = found-one (t .taken) _ (u .before .widened .ensures) (v .values .ensures) (u .first-unresolved .ensures) (m .m .given .1) in
-          c .before .before .resolve .ensures (t .question) _ _ _ _ (t .taken) (tables-of _ (t .tables .tabled) (t .tables .preferred-is)) (found .0) (found .1) (found .2),
+          c .before .before .resolve .ensures (t .question) _ _ _ (t .taken) (tables-of _ _ (t .tables .tabled) (t .tables .preferred-is)) (found .0) (found .1) (found .2),
       start v .pre .tables .planned,
     )
 
+same-length-7 : tie.Need-same-length-7
+same-length-7 c = search needs
+
 same-length-8 : tie.Need-same-length-8
 same-length-8 c = search needs
-
-same-length-9 : tie.Need-same-length-9
-same-length-9 c = search needs
 
 returns-3 : tie.Need-returns-3
 returns-3 c =
     let i = c .before .before .before .before .before in
     let k = i .before .before in (
       λ t.
-          c .before .before .branch .ensures (t .question) _ _ _ _ (t .taken) (tables-of _ (t .tables .tabled) (t .tables .preferred-is)) (all-resolved k (t .taken))
+          c .before .before .branch .ensures (t .question) _ _ _ (t .taken) (tables-of _ _ (t .tables .tabled) (t .tables .preferred-is)) (all-resolved k (t .taken))
           (removed-full (t .taken) (t .tables .tabled) (i .before .is-full .ensures) (i .if1 .left)),
       began k .pre .tables .planned,
     )
@@ -127,12 +124,11 @@ expand-spec =
     same-length-2
     same-length-3
     same-length-4
-    same-length-5
     returns
     branch-requires
+    same-length-5
     same-length-6
-    same-length-7
     returns-2
+    same-length-7
     same-length-8
-    same-length-9
     returns-3)

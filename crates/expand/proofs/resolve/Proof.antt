@@ -14,9 +14,9 @@ same-length : tie.Need-same-length
 same-length c = search needs
 
 returns : tie.Need-returns
-returns c q limit codes costs values t tables k found w =
+returns c q limit codes values t tables k found w =
     let r = c .before .before .before .resolve in
-    resolved-is t _ (r .kept .1 .1 .1 .1 .1 .1 .1 .0) k _ _ found (r .ensures (removed-step t) tables k w (removed-valid t k found)) (c .put .ensures)
+    resolved-is t _ (r .kept .1 .1 .1 .1 .1 .1 .1 .1 .0) k _ _ found (r .ensures (removed-step t) tables k w (removed-valid t k found)) (c .put .ensures)
 
 pub resolve-spec : {M : Type 1} → statement M
 resolve-spec = tie.close (tie.spec resolve-requires put-requires same-length returns)

@@ -1,5 +1,6 @@
 -- `leading_list` meets its contract: the equation with the model's export, and what is promised of every call. Assumes nothing.
 use Rattle.export.proofs.Listing.{ran-long, export-answered, refused-written, ran-written}
+use mathlib.Core.Bool.{false}
 use mathlib.Core.List.{List}
 use Prim.Native.Nat.{ℕ}
 use borrow.Author.Needs.{needs}
@@ -51,7 +52,7 @@ enum-known-e c = search needs
 write-requires : tie.Need-write-requires
 write-requires c κs =
     let called = c .before .before .before .before .before .before .before .before .before .before .before .before .before .before in
-    ran-long (sheet₀ called) (k₀ called) (lent₀ called) (held₀ called) (limit₀ called) (result₀ called) (called .list-with .ensures) (c .before .before .e .given .1)
+    ran-long false (sheet₀ called) (k₀ called) (lent₀ called) (held₀ called) (limit₀ called) (result₀ called) (called .list-with .ensures) (c .before .before .e .given .1)
 
 same-length : tie.Need-same-length
 same-length c = search needs
@@ -71,7 +72,7 @@ same-length-5 c = search needs
 returns : tie.Need-returns
 returns c =
     let called = c .before .before .before .before .before .before .before .before .before .before .before .before .before .before in
-    export-answered (sheet₀ called) (k₀ called) (lent₀ called) (held₀ called) (limit₀ called) (result₀ called) (called .list-with .ensures) (refused-written (result₀ called) _ (c .before .before .r .given .1) (c .number .ensures))
+    export-answered false (sheet₀ called) (k₀ called) (lent₀ called) (held₀ called) (limit₀ called) (result₀ called) (called .list-with .ensures) (refused-written (result₀ called) _ (c .before .before .r .given .1) (c .number .ensures))
 
 same-length-6 : tie.Need-same-length-6
 same-length-6 c = search needs
@@ -95,7 +96,7 @@ returns-2 : tie.Need-returns-2
 returns-2 c =
     let taken = c .before .before .before .before .before in
     let called = taken .before .before .before .before .before .before .before .before .before .before .before .before in
-    export-answered (sheet₀ called) (k₀ called) (lent₀ called) (held₀ called) (limit₀ called) (result₀ called) (called .list-with .ensures) (ran-written (result₀ called) _ _ (taken .e .given .1) (c .before .before .write .ensures))
+    export-answered false (sheet₀ called) (k₀ called) (lent₀ called) (held₀ called) (limit₀ called) (result₀ called) (called .list-with .ensures) (ran-written (result₀ called) _ _ (taken .e .given .1) (c .before .before .write .ensures))
 
 pub leading-list-spec : {M : Type 1} → statement M
 leading-list-spec =

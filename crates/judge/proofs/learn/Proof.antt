@@ -11,14 +11,14 @@ use Rattle.judge.proofs.Judging.{learn-unkept, learn-spent, learn-confl
 use Rattle.judge.proofs.learn.Statement.{statement}
 use Rattle.judge.proofs.learn.Tie as tie
 
-add-t23 : tie.Need-add-t23
-add-t23 c = search needs
+add-t24 : tie.Need-add-t24
+add-t24 c = search needs
 
 counted-requires : tie.Need-counted-requires
 counted-requires c κs = search needs
 
 returns : tie.Need-returns
-returns c = (λ q prices codes costs values tb t. rw (c .counted .ensures) (learn-unkept t _ (c .before .before .if1 .taken)), c .before .before .before .before .before .before .before .before .before .before .pre .0 .planned)
+returns c = (λ q prices codes values tb t. rw (c .counted .ensures) (learn-unkept t _ (c .before .before .if1 .taken)), c .before .before .before .before .before .before .before .before .before .before .pre .0 .planned)
 
 values-requires : tie.Need-values-requires
 values-requires c κs = search needs
@@ -46,17 +46,17 @@ module _ (k : tie.After-reduce) where
   abbrev start : tie.Start
   start = k .before .before .before .before .before .before .before .before .before .before .before
 
-  module _ {q : Question} {prices codes costs values : List ℕ} (tb : Tabled (q .plant) (start .args .d) (start .args .sizes .now) prices (start .args .counts .now) (start .args .lits .now))
-      (t : Removed q (start .args .limit) (start .args .queue .now) (start .args .store .now) codes costs values (start .args .g) (start .args .node)) where
+  module _ {q : Question (start .args .weighed)} {prices codes values : List ℕ} (tb : Tabled (q .plant) (start .args .d) (start .args .sizes .now) prices (start .args .counts .now) (start .args .lits .now))
+      (t : Removed q (start .args .limit) (start .args .queue .now) (start .args .store .now) codes values (start .args .g) (start .args .node)) where
     answered : Reduces (q .plant) (reduce (q .plant) (start .args .limit) (t .parent) (start .args .trials)) (k .reduce .result)
-    answered = k .reduce .ensures .0 (q .plant) prices tb (t .parent) (k .before .values .ensures (q .plant) (t .parent) (t .is)) (t .is .valid)
+    answered = k .reduce .ensures .0 (q .plant) prices tb (t .parent) (k .before .values .ensures (start .args .weighed) (q .plant) (t .parent) (t .is)) (t .is .valid)
 
 -- from behind the store
 abbrev reduced : tie.After-learn → tie.After-reduce
 reduced a = a .before .before .before .before .before
 
-add-t42 : tie.Need-add-t42
-add-t42 c = omega (arith, start (reduced (c .before .before .before .before .before .before .before)) .pre)
+add-t43 : tie.Need-add-t43
+add-t43 c = omega (arith, start (reduced (c .before .before .before .before .before .before .before)) .pre)
 
 counted-requires-3 : tie.Need-counted-requires-3
 counted-requires-3 c κs = start (reduced (c .before .before .before .before .before .before .before)) .pre .1 .tested-less
@@ -64,7 +64,7 @@ counted-requires-3 c κs = start (reduced (c .before .before .before .before .be
 returns-2 : tie.Need-returns-2
 returns-2 c =
     let k = c .before .before .before .before in (
-      λ q prices codes costs values tb t. rw (c .counted2 .ensures) (learn-spent t _ (k .before .before .before .if1 .left) _ (answered k tb t) _ (c .before .before .t .given .1)),
+      λ q prices codes values tb t. rw (c .counted2 .ensures) (learn-spent t _ (k .before .before .before .if1 .left) _ (answered k tb t) _ (c .before .before .t .given .1)),
       k .reduce .ensures .1,
     )
 
@@ -79,7 +79,7 @@ returns-3 c =
     let s = c .before .before .before .before .sieve in
     let a = c .before .before .before .before .before .before .before .before in
     let k = reduced a in (
-      λ q prices codes costs values tb t.
+      λ q prices codes values tb t.
           rw (c .counted3 .ensures) (learn-conflict t _ (k .before .before .before .if1 .left) _ (answered k tb t) (a .before .before .before .mask .given .1) _ _ _ _ (s .kept .0) (a .learn .ensures .1) (s .ensures)),
       k .reduce .ensures .1,
     )
@@ -88,7 +88,7 @@ pub learn-spec : {M : Type 1} → statement M
 learn-spec =
     tie.close
     (tie.spec
-    add-t23
+    add-t24
     counted-requires
     returns
     values-requires
@@ -98,7 +98,7 @@ learn-spec =
     enum-known-mask
     learn-requires
     sieve-requires
-    add-t42
+    add-t43
     counted-requires-3
     returns-2
     same-length

@@ -1,4 +1,4 @@
--- `list` meets its contract: two places and the bytes of a state are written, and two counts are one higher. Assumes nothing.
+-- `list` meets its contract: a place and the bytes of a state are written, and two counts are one higher. Assumes nothing.
 use mathlib.Core.Path.{refl}
 use borrow.Author.Needs.{needs}
 use Rattle.judge.proofs.list.Statement.{statement}
@@ -13,20 +13,14 @@ mul-codes c = search needs
 slice-write-codes : tie.Need-slice-write-codes
 slice-write-codes c = search needs
 
-mul-costs : tie.Need-mul-costs
-mul-costs c = search needs
-
-slice-write-costs : tie.Need-slice-write-costs
-slice-write-costs c = search needs
-
 mul-put-bytes : tie.Need-mul-put-bytes
 mul-put-bytes c = search needs
 
 put-bytes-requires : tie.Need-put-bytes-requires
 put-bytes-requires c κs = search needs
 
-add-t17 : tie.Need-add-t17
-add-t17 c = search needs
+add-t15 : tie.Need-add-t15
+add-t15 c = search needs
 
 counted-requires : tie.Need-counted-requires
 counted-requires c κs = search needs
@@ -37,13 +31,10 @@ same-length c = search needs
 same-length-2 : tie.Need-same-length-2
 same-length-2 c = search needs
 
-same-length-3 : tie.Need-same-length-3
-same-length-3 c = search needs
-
 returns : tie.Need-returns
-returns c = record { codes-are = refl; costs-are = refl; values-are = c .before .before .before .before .put-bytes .ensures .buffer; progress-is = rw (c .counted .ensures) refl }
+returns c = record { codes-are = refl; values-are = c .before .before .before .before .put-bytes .ensures .buffer; progress-is = rw (c .counted .ensures) refl }
 
 pub list-spec : {M : Type 1} → statement M
 list-spec =
     tie.close
-    (tie.spec cast-at mul-codes slice-write-codes mul-costs slice-write-costs mul-put-bytes put-bytes-requires add-t17 counted-requires same-length same-length-2 same-length-3 returns)
+    (tie.spec cast-at mul-codes slice-write-codes mul-put-bytes put-bytes-requires add-t15 counted-requires same-length same-length-2 returns)

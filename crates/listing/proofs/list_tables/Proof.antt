@@ -5,7 +5,7 @@ use Rattle.theory.proofs.Tables.{tabled-decisions, tabled-few, tabled-sized}
 use Rattle.clauses.specs.Numbers.{satWords, usesWords}
 use Rattle.clauses.proofs.Callers.{tables-more}
 use Rattle.conflict.proofs.Given.{tabled-limits, plan-long}
-use Rattle.listing.proofs.Answering.{lists-of, finished-room, finished-called}
+use Rattle.listing.proofs.Answering.{lists-of, finished-room, finished-ran}
 use borrow.Author.Needs.{needs}
 use Rattle.listing.proofs.list_tables.Statement.{statement}
 use Rattle.listing.proofs.list_tables.Tie as tie
@@ -18,12 +18,12 @@ slice-aggregate-prepare-2 c = search needs
 
 prepare-requires : tie.Need-prepare-requires
 prepare-requires c κs =
-    let l = tabled-limits (c .before .before .before .before .before .before .before .before .before .before .before .pre .0 .1) in
+    let l = tabled-limits (c .before .before .before .before .before .before .before .before .before .before .pre .0 .1) in
     (tables-more _ 48 _ _ (l .few) (l .tables), omega arith, omega arith, zero-at satWords, zero-at usesWords)
 
 preferred-requires : tie.Need-preferred-requires
 preferred-requires c κs =
-    let t = c .before .before .before .before .before .before .before .before .before .before .before .before .before .before .pre .0 .1 in
+    let t = c .before .before .before .before .before .before .before .before .before .before .before .before .before .pre .0 .1 in
     (tabled-few t, t .decisions, t .cost-room, rw (tabled-decisions t) at (tabled-sized t))
 
 slice-aggregate-listing : tie.Need-slice-aggregate-listing
@@ -31,20 +31,22 @@ slice-aggregate-listing c = search needs
 
 listing-requires : tie.Need-listing-requires
 listing-requires c κs =
-    let found = c .before .before .before .before .before .before .before .before in
+    let found = c .before .before .before .before .before .before .before in
     let sets = found .before .before .before in
-    let start = sets .before .before .before .before .before .before .before .before .before .before .before .before in
+    let start = sets .before .before .before .before .before .before .before .before .before .before .before in
     let t = start .pre .0 .1 in
-    lists-of t (sets .prepare .ensures) plan-long (found .preferred .ensures _ _ _ t) (start .pre .1)
+    let ok = start .pre .0 .2 in
+    lists-of (start .args .weighed) t ok (sets .prepare .ensures) plan-long (found .preferred .ensures _ _ _ t) (start .pre .1)
 
 finish-requires : tie.Need-finish-requires
 finish-requires c κs =
-    let ran = c .before .before .before .before .before .before .before .before .before .before .before .before in
-    let found = ran .before .before .before .before .before .before .before .before .before in
+    let ran = c .before .before .before .before .before .before .before .before .before .before in
+    let found = ran .before .before .before .before .before .before .before .before in
     let sets = found .before .before .before in
-    let start = sets .before .before .before .before .before .before .before .before .before .before .before .before in
+    let start = sets .before .before .before .before .before .before .before .before .before .before .before in
     let t = start .pre .0 .1 in
-    finished-room (ran .listing .ensures (lists-of t (sets .prepare .ensures) plan-long (found .preferred .ensures _ _ _ t) (start .pre .1)))
+    let ok = start .pre .0 .2 in
+    finished-room (ran .listing .ensures (lists-of (start .args .weighed) t ok (sets .prepare .ensures) plan-long (found .preferred .ensures _ _ _ t) (start .pre .1)))
 
 same-length : tie.Need-same-length
 same-length c = search needs
@@ -58,19 +60,16 @@ same-length-3 c = search needs
 same-length-4 : tie.Need-same-length-4
 same-length-4 c = search needs
 
-same-length-5 : tie.Need-same-length-5
-same-length-5 c = search needs
-
 returns : tie.Need-returns
-returns c p t =
+returns c p t ok =
     let finished = c .before .before .before .before in
-    let ran = finished .before .before .before .before .before .before .before .before .before .before .before .before .before in
-    let found = ran .before .before .before .before .before .before .before .before .before in
+    let ran = finished .before .before .before .before .before .before .before .before .before .before .before in
+    let found = ran .before .before .before .before .before .before .before .before in
     let sets = found .before .before .before in
-    let start = sets .before .before .before .before .before .before .before .before .before .before .before .before in
-    let h = ran .listing .ensures (lists-of t (sets .prepare .ensures) plan-long (found .preferred .ensures p _ _ t) (start .pre .1)) in
+    let start = sets .before .before .before .before .before .before .before .before .before .before .before in
+    let h = ran .listing .ensures (lists-of (start .args .weighed) t ok (sets .prepare .ensures) plan-long (found .preferred .ensures p _ _ t) (start .pre .1)) in
     let kept = ran .listing .kept .1 .1 .1 .1 .1 .1 .1 .1 .1 .1 .1 .1 in
-    finished-called p (start .args .k) (start .args .held) (start .args .limit) _ _ _ _ _ h (kept .0) (kept .1 .0) (finished .finish .ensures)
+    finished-ran (start .args .weighed) p (start .args .k) _ _ _ _ h (kept .0) (kept .1 .0) (finished .finish .ensures)
 
 pub list-tables-spec : {M : Type 1} → statement M
 list-tables-spec =
@@ -87,5 +86,4 @@ list-tables-spec =
     same-length-2
     same-length-3
     same-length-4
-    same-length-5
     returns)

@@ -32,14 +32,14 @@ same-length c = search needs
 
 returns : tie.Need-returns
 unfolding Ready entries
-returns c o node rest keyed ordered h =
+returns c ss o node rest keyed valid ordered h =
     let s = c .before .before .before .before .before .before .before .before .before .before in
     let n = s .args .n in
     let xs = pairs (s .args .queue .now) in
     let e = c .before .before .before .before .before .before .before .entry-at in
     let last = c .before .before .before .before .entry-at2 in
     let d = c .before .before .sift-down .ensures (heap-part 0 n 1 (n - 1) xs (omega arith) (omega arith) (h .ready)) in
-    holds-pop keyed ordered h (rw (e .ensures) at (all-first n xs (h .ready))) _ (d .heap)
+    holds-pop ss keyed valid ordered h (rw (e .ensures) at (all-first n xs (h .ready))) _ (d .heap)
     (λ w. (rw (last .ensures, e .ensures) at (first-out xs n (omega arith) (room (s .args .queue .now) n (s .pre .0)) w)) ∙ ap (λ (m : ℕ). w (e .result .a, e .result .b) + m) (d .same w))
 
 same-length-2 : tie.Need-same-length-2
@@ -47,12 +47,12 @@ same-length-2 c = search needs
 
 returns-2 : tie.Need-returns-2
 unfolding Ready entries
-returns-2 c o node rest keyed ordered h =
+returns-2 c ss o node rest keyed valid ordered h =
     let s = c .before .before .before .before in
     let n = s .args .n in
     let xs = pairs (s .args .queue .now) in
     let e = c .before .entry-at in
-    holds-pop keyed ordered h (rw (e .ensures) at (all-first n xs (h .ready))) _ (heap-part 0 n 0 (n - 1) xs (omega arith) (omega arith) (h .ready))
+    holds-pop ss keyed valid ordered h (rw (e .ensures) at (all-first n xs (h .ready))) _ (heap-part 0 n 0 (n - 1) xs (omega arith) (omega arith) (h .ready))
     (rw (e .ensures) at (only-out xs n (omega arith) (omega arith) (room (s .args .queue .now) n (s .pre .0))))
 
 pub pop-spec : {M : Type 1} → statement M

@@ -17,11 +17,11 @@ use Rattle.queue.proofs.sieve.Statement.{statement}
 use Rattle.queue.proofs.sieve.Tie as tie
 
 abbrev Inv-loop : tie.InvT-loop
-Inv-loop queue₀ n mask values wide count₀ i₀ queue count i =
-    (length queue ≡ length queue₀) × (i ≤ n) × (count ≤ i) × ((test : Item → Bool) → Answers wide values n (pairs queue₀) test → Sieving test (pairs queue₀) (pairs queue) count i)
+Inv-loop queue₀ n weighed mask values wide count₀ i₀ queue count i =
+    (length queue ≡ length queue₀) × (i ≤ n) × (count ≤ i) × ((test : Item → Bool) → Answers weighed wide values n (pairs queue₀) test → Sieving test (pairs queue₀) (pairs queue) count i)
 
 abbrev μ-loop : tie.MeasureT-loop
-μ-loop queue₀ n mask values wide count₀ i₀ queue count i = n - i
+μ-loop queue₀ n weighed mask values wide count₀ i₀ queue count i = n - i
 
 widened-requires : tie.Need-widened-requires Inv-loop μ-loop
 widened-requires c κs = tt
@@ -88,7 +88,7 @@ returns : tie.Need-returns Inv-loop μ-loop
 unfolding Ready entries
 returns c = (
   omega arith,
-  λ ss o nodes conflict suits valid words long h.
+  λ ss o nodes conflict suits is valid words long h.
       let l = c .before .before .before .before .before .loop in
       let s = c .before .before .before .before .before .before .before .before in
       let wide = c .before .before .before .before .before .before .widened in
@@ -96,8 +96,8 @@ returns c = (
       let n = s .args .n in
       let old = s .args .queue .now in
       let all : l .i ≡ n = omega arith in
-      let answers = stays-spared ss o conflict suits long n old nodes h valid (wide .result) (s .args .values) (record { mask = s .args .mask; words = words; wide-is = wide .ensures }) (s .pre) in
-      let front : take (l .count) (pairs (l .queue)) ≡ keep (spared conflict) (take n (pairs old)) = rw all at (l .inv .3 (spared conflict) answers .kept) in
+      let answers = stays-spared ss o conflict suits long n old nodes h valid (s .args .weighed) is (wide .result) (s .args .values) (record { mask = s .args .mask; words = words; wide-is = wide .ensures }) (s .pre) in
+      let front : take (l .count) (pairs (l .queue)) ≡ keep (spared (o .weighed) conflict) (take n (pairs old)) = rw all at (l .inv .3 (spared (o .weighed) conflict) answers .kept) in
       holds-sieve ss o conflict suits long n old nodes h valid (l .count) (r .last .0) (omega arith) (r .ensures .heap) (λ w. rw front at (r .ensures .same w)),
 )
 

@@ -16,8 +16,8 @@ manifests-requires : tie.Need-manifests-requires
 manifests-requires c κs = search needs
 
 returns : tie.Need-returns
-returns c ss o n d s v e w l =
-    ap not (c .manifests .ensures n d (record { mask = c .before .before .node-of .result .mask; words = c .before .before .node-of .ensures ss o n s v e; wide-is = c .before .widened .ensures }) w (valid-length ss n v ∙ sym l))
+returns c ss o n d s is v e w l =
+    ap not (c .manifests .ensures n d (record { mask = c .before .before .node-of .result .mask; words = c .before .before .node-of .ensures ss o n s is v e; wide-is = c .before .widened .ensures }) w (valid-length ss n v ∙ sym l))
 
 pub stays-spec : {M : Type 1} → statement M
 stays-spec = tie.close (tie.spec node-of-requires widened-requires manifests-requires returns)

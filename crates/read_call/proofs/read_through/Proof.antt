@@ -1,4 +1,5 @@
 -- `read_call::read_through` meets its contract: the sheet is refused and nothing is changed, or its tables are at the front of the lent ones. Assumes nothing.
+use mathlib.Core.Bool.{false}
 use native.Mathlib.Omega.{arith}
 use borrow.Author.Needs.{needs}
 use Rattle.sheet.proofs.Held.{refused-by}
@@ -19,11 +20,11 @@ enum-known-d c = search needs
 
 -- an accepted sheet's tables
 tables : (k : tie.After-d)
-    → let r = k .before .before .read .last .1 in
-    Opened (k .before .before .before .before .before .before .before .before .args .sheet .now) (r .0) (r .1 .0) (r .1 .1 .0) (r .1 .1 .1 .0) (k .d .given .0 .0) (k .d .given .0 .1 .0) (k .d .given .0 .1 .1 .0)
+    → let r = k .before .before .read .last .1 .1 in
+    Opened false (k .before .before .before .before .before .before .before .before .args .sheet .now) (r .0) (r .1 .0) (r .1 .1 .0) (r .1 .1 .1 .0) (k .d .given .0 .0) (k .d .given .0 .1 .0) (k .d .given .0 .1 .1 .0)
 tables k =
     let r = k .before .before .read in
-    opened _ _ _ _ _ _ (r .ensures) (k .d .given .1) (omega (arith, r .kept .1 .0)) (omega (arith, r .kept .1 .1 .0)) (omega (arith, r .kept .1 .1 .1 .0)) (omega (arith, r .kept .1 .1 .1 .1 .0))
+    opened _ _ _ _ _ _ _ (r .ensures) (k .d .given .1) (omega (arith, r .kept .1 .1 .0)) (omega (arith, r .kept .1 .1 .1 .0)) (omega (arith, r .kept .1 .1 .1 .1 .0)) (omega (arith, r .kept .1 .1 .1 .1 .1 .0))
 
 add-fill : tie.Need-add-fill
 add-fill c = record { fits = omega (arith, tables (c .before .before .before .before) .variables) }
@@ -61,7 +62,7 @@ returns c =
     let read = c .before .before .before in
     let s = read .before .before .before .before .before .before .args in
     let before = tablesLent (s .sizes .now) (s .costs .now) (s .counts .now) (s .lits .now) (s .numbers .now) in
-    refused-told (s .sheet .now) before (c .before .n .given .0 .0) (refused-by _ _ _ _ _ (c .before .n .given .1) (read .read .ensures .0))
+    refused-told (s .sheet .now) before (c .before .n .given .0 .0) (refused-by _ _ _ _ _ _ (c .before .n .given .1) (read .read .ensures .0))
 
 returns-2 : tie.Need-returns-2
 returns-2 c =
@@ -70,7 +71,7 @@ returns-2 c =
     let costs = c .before .before .before .before .before .before .before .before .before .before .before .before .fill-costs in
     let sizes = c .before .before .before .before .before .before .before .before .before .before .before .before .before .before .before .before .before .before .fill in
     let read = c .before .before .before .before .before .before .before .before .before .before .before .before .before .before .before .before .before .before .before .before .before .before .before in
-    let r = read .before .before .read .last .1 in
+    let r = read .before .before .read .last .1 .1 in
     let n = read .d .given .0 in
     let s = read .before .before .before .before .before .before .before .before .args in
     let before = tablesLent (s .sizes .now) (s .costs .now) (s .counts .now) (s .lits .now) (s .numbers .now) in

@@ -3,31 +3,18 @@ use borrow.Author.Needs.{needs}
 use Rattle.replay_listings.proofs.checksum.Statement.{statement}
 use Rattle.replay_listings.proofs.checksum.Tie as tie
 
-mixed-all-u64-requires : tie.Need-mixed-all-u64-requires
-mixed-all-u64-requires c κs = search needs
-
-mixed-all-u32-requires : tie.Need-mixed-all-u32-requires
-mixed-all-u32-requires c κs = search needs
-
 mixed-all-requires : tie.Need-mixed-all-requires
 mixed-all-requires c κs = search needs
 
+mixed-all-u64-requires : tie.Need-mixed-all-u64-requires
+mixed-all-u64-requires c κs = search needs
+
 mixed-all-u64-requires-2 : tie.Need-mixed-all-u64-requires-2
 mixed-all-u64-requires-2 c κs = search needs
-
-mixed-all-u64-requires-3 : tie.Need-mixed-all-u64-requires-3
-mixed-all-u64-requires-3 c κs = search needs
 
 returns : tie.Need-returns
 returns c = cc
 
 pub checksum-spec : {M : Type 1} → statement M
 checksum-spec =
-    tie.close
-    (tie.spec
-    mixed-all-u64-requires
-    mixed-all-u32-requires
-    mixed-all-requires
-    mixed-all-u64-requires-2
-    mixed-all-u64-requires-3
-    returns)
+    tie.close (tie.spec mixed-all-requires mixed-all-u64-requires mixed-all-u64-requires-2 returns)

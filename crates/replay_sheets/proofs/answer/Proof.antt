@@ -4,6 +4,9 @@ use borrow.Author.Needs.{needs}
 use Rattle.replay_sheets.proofs.answer.Statement.{statement}
 use Rattle.replay_sheets.proofs.answer.Tie as tie
 
+weighed-requires : tie.Need-weighed-requires
+weighed-requires c κs = search needs
+
 slice-aggregate-read : tie.Need-slice-aggregate-read
 slice-aggregate-read c = search needs
 
@@ -76,6 +79,7 @@ pub answer-spec : {M : Type 1} → statement M
 answer-spec =
     tie.close
     (tie.spec
+    weighed-requires
     slice-aggregate-read
     slice-aggregate-read-2
     slice-aggregate-read-3

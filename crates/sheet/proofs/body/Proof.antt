@@ -5,7 +5,7 @@ use mathlib.Core.Path.{sym}
 use mathlib.Core.List.{List}
 use Prim.Native.Nat.{ℕ}
 use lib.Seq.{length-take-le}
-use Rattle.model.specs.Sheet.{edition1, readBody}
+use Rattle.model.specs.Sheet.{editionOf, readBody}
 use Rattle.theory.specs.Longest.{headBits}
 use Rattle.readings.proofs.Laws.{was-step, no-step, onward}
 use Rattle.sheet_variables.proofs.Laws.{variables-next, variables-refused}
@@ -38,8 +38,8 @@ abbrev sheet : Variables → List ℕ
 sheet k = start (call k) .args .sheet .now
 
 variables-read : (k : Variables)
-    → VariablesRead (sheet k) (call k .variables .last .1 .1 .1 .0) (call k .variables .last .1 .1 .1 .1 .0) (start (call k) .args .d) (start (call k) .args .s) (start (call k) .args .c) (k .after .given .0 .0)
-    (readBody edition1 (sheet k) (start (call k) .args .d) (start (call k) .args .s) (start (call k) .args .c) headBits)
+    → VariablesRead (sheet k) (call k .variables .last .1 .1 .1 .1 .0) (call k .variables .last .1 .1 .1 .1 .1 .0) (start (call k) .args .d) (start (call k) .args .s) (start (call k) .args .c) (k .after .given .0 .0)
+    (readBody (editionOf (start (call k) .args .weighed)) (sheet k) (start (call k) .args .d) (start (call k) .args .s) (start (call k) .args .c) headBits)
 variables-read k =
     let known = onward _ (k .after .given .1) (call k .variables .ensures .1) in
     record { rest = variables-next _ _ _ _ (k .after .given .1) (call k .variables .ensures .0 (start (call k) .args .c)); lengths = known .1; end = known .0 }
@@ -78,7 +78,7 @@ slice-reshare-prefix-clauses : tie.Need-slice-reshare-prefix-clauses
 slice-reshare-prefix-clauses c = search needs
 
 slice-aggregate-clauses : tie.Need-slice-aggregate-clauses
-slice-aggregate-clauses c = sym (length-take-le _ _ (omega (arith, c .before .before .before .before .before .before .before .before .variables .kept .1 .1 .1 .0)))
+slice-aggregate-clauses c = sym (length-take-le _ _ (omega (arith, c .before .before .before .before .before .before .before .before .variables .kept .1 .1 .1 .1 .0)))
 
 clauses-requires : tie.Need-clauses-requires
 clauses-requires c κs = (omega (arith, variables-read (c .before .before .before .before) .end), omega arith, omega arith, omega arith)

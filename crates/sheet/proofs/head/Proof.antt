@@ -1,7 +1,8 @@
 -- `sheet::head` meets its contract: each return is the way through the reading that its fields and tests lead. Assumes nothing.
 use borrow.Author.Needs.{needs}
-use mathlib.Core.Path.{sym}
+use mathlib.Core.Path.{sym, _∙_}
 use native.Mathlib.Omega.{arith}
+use Rattle.model.specs.Sheet.{editionOf}
 use Rattle.readings.proofs.Laws.{was-value, was-past}
 use Rattle.sheet.proofs.Ways.{EditionRead, DecisionsRead, StatesRead, edition-past, edition-other, decisions-past, decisions-none, decisions-many, decisions-allowed, decisions-other, states-past, states-many, clauses-past, clauses-many, head-got}
 use Rattle.sheet.proofs.head.Statement.{statement}
@@ -9,10 +10,12 @@ use Rattle.sheet.proofs.head.Tie as tie
 use Rattle.sheet.proofs.head.Reads as reads
 use Rattle.sheet.proofs.head.Lts as lts
 use Rattle.bits.proofs.field_at.Reads as field-at-reads
+use Rattle.sheet.proofs.number.Reads as number-reads
+use Rattle.sheet.proofs.most.Reads as most-reads
 
 -- the places where the edition, then the decision variables, then the state variables have been read and are allowed
 abbrev callees : lts.Claims
-callees = (field-at-reads.Asked, field-at-reads.Learnt)
+callees = (field-at-reads.Asked, field-at-reads.Learnt, number-reads.Asked, number-reads.Learnt, most-reads.Asked, most-reads.Learnt)
 
 abbrev Edition : Type 0
 Edition = lts.Else1 callees reads.Pre reads.Post
@@ -23,13 +26,13 @@ Decisions = lts.Else3 callees reads.Pre reads.Post
 abbrev States : Type 0
 States = lts.Else4 callees reads.Pre reads.Post
 
-edition-read : (k : Edition) → EditionRead (k .before .before .before .before .before .before .args .sheet .now) (k .before .before .edition .given .0 .0)
-edition-read k = record { field-is = was-value (k .before .before .edition .given .1) (k .before .before .before .before .field-at .ensures); allowed = k .if1 .left }
+edition-read : (k : Edition) → EditionRead (editionOf (k .before .before .before .before .before .before .before .args .weighed)) (k .before .before .before .before .before .before .before .args .sheet .now) (k .before .before .before .edition .given .0 .0)
+edition-read k = record { field-is = was-value (k .before .before .before .edition .given .1) (k .before .before .before .before .before .field-at .ensures); allowed = k .if1 .left ∙ k .before .number .ensures }
 
-decisions-read : (k : Decisions) → DecisionsRead (edition-read (k .before .before .before .before .before .before)) (k .before .before .before .decisions .given .0 .0)
+decisions-read : (k : Decisions) → DecisionsRead (edition-read (k .before .before .before .before .before .before .before)) (k .before .before .before .before .decisions .given .0 .0)
 decisions-read k = record {
-  field-is = was-value (k .before .before .before .decisions .given .1) (k .before .before .before .before .before .field-at2 .ensures);
-  allowed = decisions-allowed _ (k .before .if2 .left) (k .if3 .left);
+  field-is = was-value (k .before .before .before .before .decisions .given .1) (k .before .before .before .before .before .before .field-at2 .ensures);
+  allowed = decisions-allowed _ _ (k .before .before .if2 .left) (omega (arith, k .if3 .left, k .before .most .ensures .0));
 }
 
 states-read : (k : States) → StatesRead (decisions-read (k .before .before .before .before .before)) (k .before .before .states .given .0 .0)
@@ -45,10 +48,15 @@ enum-told : tie.Need-enum-told
 enum-told c = search needs
 
 returns : tie.Need-returns
-returns c = (sym (edition-past _ (was-past _ (c .enum-told .given .1) (c .before .before .field-at .ensures))), tt)
+returns c = (sym (edition-past _ _ (was-past _ (c .enum-told .given .1) (c .before .before .field-at .ensures))), tt)
+
+number-requires : tie.Need-number-requires
+number-requires c κs = search needs
 
 returns-2 : tie.Need-returns-2
-returns-2 c = (sym (edition-other _ (was-value (c .before .before .edition .given .1) (c .before .before .before .before .field-at .ensures)) (c .if1 .taken)), tt)
+returns-2 c =
+    let first = was-value (c .before .before .before .edition .given .1) (c .before .before .before .before .before .field-at .ensures) in
+    (sym (edition-other _ _ first (λ e. c .if1 .taken (e ∙ sym (c .before .number .ensures)))), tt)
 
 field-at-requires-2 : tie.Need-field-at-requires-2
 field-at-requires-2 c κs = search needs
@@ -68,12 +76,16 @@ cast-d c = search needs
 returns-4 : tie.Need-returns-4
 returns-4 c =
     let second = was-value (c .before .before .decisions .given .1) (c .before .before .before .before .field-at2 .ensures) in
-    (sym (decisions-other (edition-read (c .before .before .before .before .before)) second (decisions-none _ (c .if2 .taken))), tt)
+    (sym (decisions-other (edition-read (c .before .before .before .before .before)) second (decisions-none _ _ (c .if2 .taken))), tt)
+
+most-requires : tie.Need-most-requires
+most-requires c κs = search needs
 
 returns-5 : tie.Need-returns-5
 returns-5 c =
-    let second = was-value (c .before .before .before .decisions .given .1) (c .before .before .before .before .before .field-at2 .ensures) in
-    (sym (decisions-other (edition-read (c .before .before .before .before .before .before)) second (decisions-many _ (c .if3 .taken))), tt)
+    let second = was-value (c .before .before .before .before .decisions .given .1) (c .before .before .before .before .before .before .field-at2 .ensures) in
+    let many = decisions-many (editionOf (c .before .before .before .before .before .before .before .before .before .before .before .before .before .before .args .weighed)) (c .before .before .before .before .decisions .given .0 .0) (c .before .before .if2 .left) (omega (arith, c .if3 .taken, c .before .most .ensures .0)) in
+    (sym (decisions-other (edition-read (c .before .before .before .before .before .before .before)) second many), tt)
 
 field-at-requires-3 : tie.Need-field-at-requires-3
 field-at-requires-3 c κs = search needs
@@ -128,6 +140,7 @@ head-spec =
     enum-known-edition
     enum-told
     returns
+    number-requires
     returns-2
     field-at-requires-2
     enum-known-decisions
@@ -135,6 +148,7 @@ head-spec =
     returns-3
     cast-d
     returns-4
+    most-requires
     returns-5
     field-at-requires-3
     enum-known-states

@@ -21,7 +21,7 @@ body-requires c κs =
     (allowed .0, allowed .1, allowed .2, allowed .3, omega arith, omega arith, omega arith, omega arith)
 
 returns : tie.Need-returns
-returns c = (head-refused _ (c .before .n .given .1) (c .before .before .before .head .ensures .0), tt)
+returns c = (head-refused _ _ (c .before .n .given .1) (c .before .before .before .head .ensures .0), tt)
 
 same-length : tie.Need-same-length
 same-length c = search needs
@@ -39,7 +39,7 @@ returns-2 : tie.Need-returns-2
 returns-2 c =
     let called = c .before .before .before .before .before .before .before .before in
     let counted = called .before .before .before .before .before .before in
-    (called .body .ensures .0 ∙ head-counts _ (counted .d .given .1) (counted .before .before .head .ensures .0), called .body .ensures .1)
+    (called .body .ensures .0 ∙ head-counts _ _ (counted .d .given .1) (counted .before .before .head .ensures .0), called .body .ensures .1)
 
 pub read-spec : {M : Type 1} → statement M
 read-spec =

@@ -4,7 +4,7 @@ use Prim.Native.Nat.{_+_, _*_, _-_, _≤_}
 use mathlib.Core.Path.{_≡_, refl, sym, ap, _∙_}
 use native.Mathlib.Omega.{arith}
 use lib.ListN.{length, take, length-set}
-use Rattle.model.specs.Sheet.{edition1, readLiteral, readClause, got}
+use Rattle.model.specs.Sheet.{readLiteral, readClause, got}
 use Rattle.theory.proofs.Sheet.{field-got}
 use Rattle.model.specs.Tables.{literals}
 use Rattle.sheet_clauses.proofs.Tables.{literals-write}
@@ -16,7 +16,7 @@ use Rattle.sheet_clauses.proofs.clause.Tie as tie
 
 abbrev Inv-loop : tie.InvT-loop
 Inv-loop sheet place domains lits₀ n count at₀ i₀ lits at i = (i ≤ count) × (count ≤ 15) × (at ≡ place + 4 + literalBits * i) × (length lits ≡ length lits₀)
-    × Reading (readLiteral edition1 sheet domains) (readClause edition1 sheet domains place) count i (literals (take (3 * i) lits)) at
+    × Reading (readLiteral sheet domains) (readClause sheet domains place) count i (literals (take (3 * i) lits)) at
 
 abbrev μ-loop : tie.MeasureT-loop
 μ-loop sheet place domains lits₀ n count at₀ i₀ lits at i = count - i

@@ -4,7 +4,7 @@ use Prim.Native.Nat.{_+_, _*_, _-_, _≤_}
 use mathlib.Core.Path.{_≡_, refl, sym, ap, _∙_}
 use native.Mathlib.Omega.{arith}
 use lib.ListN.{length, take, set, length-set, length-take, length-drop}
-use Rattle.model.specs.Sheet.{edition1, many, readClause, got}
+use Rattle.model.specs.Sheet.{many, readClause, got}
 use Rattle.model.specs.Tables.{clauses, total}
 use Rattle.theory.specs.Longest.{clauseBits}
 use Rattle.readings.specs.Lengths.{clauseBytes}
@@ -16,7 +16,7 @@ use Rattle.sheet_clauses.proofs.clauses.Tie as tie
 
 abbrev Inv-loop : tie.InvT-loop
 Inv-loop sheet place c domains counts₀ lits₀ at₀ from₀ i₀ counts lits at from i = (i ≤ c) × (from ≡ 3 * total (take i counts)) × (from ≤ clauseBytes * i) × (at ≤ place + clauseBits * i) × (length counts ≡ length counts₀) × (length lits ≡ length lits₀)
-    × Reading (readClause edition1 sheet domains) (many (readClause edition1 sheet domains) c place) c i (clauses (take i counts) lits) at
+    × Reading (readClause sheet domains) (many (readClause sheet domains) c place) c i (clauses (take i counts) lits) at
 
 abbrev μ-loop : tie.MeasureT-loop
 μ-loop sheet place c domains counts₀ lits₀ at₀ from₀ i₀ counts lits at from i = c - i

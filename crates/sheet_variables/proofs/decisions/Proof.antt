@@ -5,7 +5,7 @@ use mathlib.Core.Path.{_≡_, refl, sym, ap, _∙_}
 use mathlib.Core.List.{map}
 use native.Mathlib.Omega.{arith}
 use lib.ListN.{length, take, length-set, length-take, length-drop}
-use Rattle.model.specs.Sheet.{edition1, many, readDecision, got}
+use Rattle.model.specs.Sheet.{editionOf, many, readDecision, got}
 use Rattle.theory.specs.Tables.{rows}
 use Rattle.readings.specs.Lengths.{decisionBits}
 use Rattle.readings.proofs.Tables.{part-long}
@@ -15,12 +15,12 @@ use Rattle.sheet_variables.proofs.decisions.Statement.{statement}
 use Rattle.sheet_variables.proofs.decisions.Tie as tie
 
 abbrev Inv-loop : tie.InvT-loop
-Inv-loop sheet place d sizes₀ costs₀ at₀ i₀ sizes costs at i = (i ≤ d) × (at ≤ place + decisionBits * i) × (length sizes ≡ length sizes₀) × (length costs ≡ length costs₀)
+Inv-loop sheet weighed place d sizes₀ costs₀ at₀ i₀ sizes costs at i = (i ≤ d) × (at ≤ place + decisionBits * i) × (length sizes ≡ length sizes₀) × (length costs ≡ length costs₀)
     × (map length (rows (take i sizes) costs) ≡ take i sizes)
-    × Reading (readDecision edition1 sheet) (many (readDecision edition1 sheet) d place) d i (rows (take i sizes) costs) at
+    × Reading (readDecision (editionOf weighed) sheet) (many (readDecision (editionOf weighed) sheet) d place) d i (rows (take i sizes) costs) at
 
 abbrev μ-loop : tie.MeasureT-loop
-μ-loop sheet place d sizes₀ costs₀ at₀ i₀ sizes costs at i = d - i
+μ-loop sheet weighed place d sizes₀ costs₀ at₀ i₀ sizes costs at i = d - i
 
 loop-holds : tie.Need-loop-holds Inv-loop μ-loop
 unfolding rows
@@ -78,9 +78,9 @@ loop-again c =
     let loop = c .before .before .before .before .before .before .before .before .loop in
     let row = c .before .before .before .before .before .row in
     let bounds = within 16 _ (c .before .size .given .1) (row .ensures .1) in
-    let part = row .last .1 .1 .0 in
+    let part = row .last .1 .1 .1 .0 in
     let n = c .before .size .given .0 .0 in
-    let long = part-long (loop .costs) part (16 * loop .i) 16 (row .kept .1 .1 .0) (omega arith) in
+    let long = part-long (loop .costs) part (16 * loop .i) 16 (row .kept .1 .1 .1 .0) (omega arith) in
     let more = rows-write (loop .sizes) (loop .costs) part (loop .i) n (omega arith) (omega arith) (bounds .0) in (
       omega arith,
       omega (arith, bounds .1),

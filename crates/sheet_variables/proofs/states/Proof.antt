@@ -4,7 +4,7 @@ use Prim.Native.Nat.{_+_, _*_, _-_, _≤_, _<_}
 use mathlib.Core.Path.{_≡_, refl, sym, ap, _∙_}
 use native.Mathlib.Omega.{arith}
 use lib.ListN.{length, take, length-set}
-use Rattle.model.specs.Sheet.{edition1, many, readState, got}
+use Rattle.model.specs.Sheet.{many, readState, got}
 use Rattle.theory.proofs.Sheet.{field-got}
 use Rattle.theory.specs.Longest.{stateBits}
 use Rattle.readings.proofs.Tables.{take-write}
@@ -15,7 +15,7 @@ use Rattle.sheet_variables.proofs.states.Tie as tie
 
 abbrev Inv-loop : tie.InvT-loop
 Inv-loop sheet place s sizes₀ at₀ i₀ sizes at i = (i ≤ s) × (at ≡ place + stateBits * i) × (length sizes ≡ length sizes₀)
-    × Reading (readState edition1 sheet) (many (readState edition1 sheet) s place) s i (take i sizes) at
+    × Reading (readState sheet) (many (readState sheet) s place) s i (take i sizes) at
 
 abbrev μ-loop : tie.MeasureT-loop
 μ-loop sheet place s sizes₀ at₀ i₀ sizes at i = s - i

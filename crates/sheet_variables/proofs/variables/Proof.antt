@@ -3,6 +3,7 @@ use borrow.Author.Needs.{needs}
 use Prim.Native.Nat.{_≤_}
 use native.Mathlib.Omega.{arith}
 use lib.ListN.{length, length-take, length-drop}
+use Rattle.model.specs.Sheet.{editionOf}
 use Rattle.readings.proofs.Laws.{was-step, no-step, onward}
 use Rattle.sheet_variables.proofs.Parts.{no-decisions, variables-read, variables-known}
 use Rattle.sheet_variables.proofs.variables.Statement.{statement}
@@ -30,7 +31,7 @@ states-requires : tie.Need-states-requires
 states-requires c κs =
     let decisions = c .before .before .before .before .before .before .before .before .decisions in
     let known = onward _ (c .before .before .after .given .1) (decisions .ensures .1) in
-    (omega (arith, known .0), omega arith, simp (length-take, length-drop) (omega (arith, decisions .kept .1 .1 .1 .0)))
+    (omega (arith, known .0), omega arith, simp (length-take, length-drop) (omega (arith, decisions .kept .1 .1 .1 .1 .0)))
 
 same-length : tie.Need-same-length
 same-length c = search needs
@@ -39,7 +40,7 @@ same-length-2 : tie.Need-same-length-2
 same-length-2 c = search needs
 
 returns : tie.Need-returns
-returns c = (λ k. no-decisions _ _ _ k (no-step _ (c .before .n .given .1) (c .before .before .before .before .before .before .before .decisions .ensures .0)), tt)
+returns c = (λ k. no-decisions _ _ _ _ k (no-step _ (c .before .n .given .1) (c .before .before .before .before .before .before .before .decisions .ensures .0)), tt)
 
 same-length-3 : tie.Need-same-length-3
 same-length-3 c = search needs
@@ -56,12 +57,12 @@ returns-2 c =
     let start = called .before .before .before .before .before .before .args in
     let first = was-step _ (read .after .given .1) (decisions .ensures .0) in
     let known = onward _ (read .after .given .1) (decisions .ensures .1) in
-    let sizes = decisions .last .1 .1 .1 .0 in
-    let costs = decisions .last .1 .1 .1 .1 .0 in
+    let sizes = decisions .last .1 .1 .1 .1 .0 in
+    let costs = decisions .last .1 .1 .1 .1 .1 .0 in
     let part = states .last .1 .1 .1 .0 in
-    let room : start .d ≤ length sizes = omega (arith, decisions .kept .1 .1 .1 .0) in (
-      λ k. variables-read (start .sheet .now) (start .d) (start .s) k sizes costs part _ (states .result) room first (states .ensures .0),
-      variables-known (start .sheet .now) (start .d) (start .s) 0 sizes costs part _ (states .result) room (known .0) (omega arith) (omega arith) (known .1) (states .ensures .1),
+    let room : start .d ≤ length sizes = omega (arith, decisions .kept .1 .1 .1 .1 .0) in (
+      λ k. variables-read (editionOf (start .weighed)) (start .sheet .now) (start .d) (start .s) k sizes costs part _ (states .result) room first (states .ensures .0),
+      variables-known (editionOf (start .weighed)) (start .sheet .now) (start .d) (start .s) 0 sizes costs part _ (states .result) room (known .0) (omega arith) (omega arith) (known .1) (states .ensures .1),
     )
 
 pub variables-spec : {M : Type 1} → statement M

@@ -8,7 +8,7 @@ use Rattle.steps.proofs.step.Tie as tie
 
 -- where the function began
 abbrev start : tie.After-struct-known → tie.Start
-start k = k .before .before .before .before .before .before .before .before .before .before .before
+start k = k .before .before .before .before .before .before .before .before .before .before
 
 returns : tie.Need-returns
 returns c = (λ t. step-all t (omega arith), start (c .before) .pre .tables .planned)
@@ -38,7 +38,7 @@ module _ (k : tie.After-pop) where
 
 expand-requires : tie.Need-expand-requires
 expand-requires c κs =
-    let k = c .before .before .before .before .before .before .before .before .before .before in
+    let k = c .before .before .before .before .before .before .before .before .before in
     removes (began k .pre) (filled k) (wanting k) _ (k .pop .kept .0) _ _ _ (k .pop .ensures) (c .from-entry .ensures)
 
 same-length : tie.Need-same-length
@@ -53,14 +53,11 @@ same-length-3 c = search needs
 same-length-4 : tie.Need-same-length-4
 same-length-4 c = search needs
 
-same-length-5 : tie.Need-same-length-5
-same-length-5 c = search needs
-
 returns-3 : tie.Need-returns-3
 returns-3 c =
-    let e = c .before .before .before .before .before .before .before .before .before .before in
+    let e = c .before .before .before .before .before .before .before .before in
     let n = e .before .from-entry in
-    let k = e .before .before .before .before .before .before .before .before .before .before .before in (
+    let k = e .before .before .before .before .before .before .before .before .before .before in (
       λ t.
           rw (step-removed t (filled k) (wanting k) _ (k .pop .kept .0) _ _ _ (k .pop .ensures) (n .ensures)) at
           (e .expand .ensures .0 (removes t (filled k) (wanting k) _ (k .pop .kept .0) _ _ _ (k .pop .ensures) (n .ensures))),
@@ -81,5 +78,4 @@ step-spec =
     same-length-2
     same-length-3
     same-length-4
-    same-length-5
     returns-3)

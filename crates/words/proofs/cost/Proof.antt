@@ -1,6 +1,7 @@
 -- `words::cost` meets its contract. The loop's invariant: the sum so far, with what the variables left cost, is the cost. Assumes nothing.
 use Prim.Native.Nat.{_+_, _-_, _*_, _≤_}
 use mathlib.Core.Path.{_≡_}
+use mathlib.Core.Bool.{false}
 use native.Mathlib.Omega.{arith}
 use native.Mathlib.Nat.{zero-add, sub-zero}
 use borrow.Author.Needs.{needs}
@@ -8,12 +9,12 @@ use Rattle.model.specs.Digits.{digits}
 use Rattle.model.specs.Order.{cost}
 use Rattle.theory.specs.Words.{sixteens}
 use Rattle.theory.proofs.Digits.{digits-length}
-use Rattle.words.proofs.Loops.{costFrom, cost-step, cost-end}
+use Rattle.words.proofs.Loops.{figureFrom, figure-step, figure-end}
 use Rattle.words.proofs.cost.Statement.{statement}
 use Rattle.words.proofs.cost.Tie as tie
 
 abbrev Inv-loop : tie.InvT-loop
-Inv-loop code costs d sum₀ v₀ sum v = (v ≤ d) × (sum ≤ 65535 * v) × (sum + costFrom d costs (digits 16 16 code) v ≡ cost (sixteens d costs) (digits 16 16 code))
+Inv-loop code costs d sum₀ v₀ sum v = (v ≤ d) × (sum ≤ 65535 * v) × (sum + figureFrom false d costs (digits 16 16 code) v ≡ cost (sixteens d costs) (digits 16 16 code))
 
 abbrev μ-loop : tie.MeasureT-loop
 μ-loop code costs d sum₀ v₀ sum v = d - v
@@ -53,14 +54,14 @@ loop-again c =
     let h = c .before .before .before .before in
     let s = h .before .before .args in
     let x = c .before .before .digit-at in
-    let step = rw (← x .ensures .0) at (cost-step (s .d) (s .costs .now) (digits 16 16 (s .code)) (h .loop .v) (c .before .before .before .loop-test .taken)
+    let step = rw (← x .ensures .0) at (figure-step false (s .d) (s .costs .now) (digits 16 16 (s .code)) (h .loop .v) (c .before .before .before .loop-test .taken)
     (rw (digits-length 16 16 (s .code)) (omega arith)) (rw (← x .ensures .0) (x .ensures .1))) in
     (omega arith, omega arith, omega (arith, c .summand .ensures .0))
 
 returns : tie.Need-returns Inv-loop μ-loop
 returns c =
     let s = c .before .before .before .args in
-    omega (arith, cost-end (s .d) (s .costs .now) (digits 16 16 (s .code)) (c .before .loop .v) (omega arith))
+    omega (arith, figure-end false (s .d) (s .costs .now) (digits 16 16 (s .code)) (c .before .loop .v) (omega arith))
 
 pub cost-spec : {M : Type 1} → statement M
 cost-spec =
