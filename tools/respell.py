@@ -4,7 +4,8 @@
 usage: python3 tools/respell.py [ROOT]   once, right after /opt/rattle/port/port.py, on the files of ROOT/crates
 
 Definitions and lemmas are in snake case; a dash stays where it joins two names. In a function's proof a name that Rattle
-made stays as it is: one whose type is the goal's, and one behind a dot that is no field of a record of ours.
+made stays as it is: one whose type is the goal's, and one behind a dot that is no field of a record of ours. So does a
+name that a file takes from a library.
 """
 import pathlib
 import re
@@ -13,6 +14,7 @@ import sys
 HERE = pathlib.Path(__file__).resolve().parent
 NAME = re.compile(r"[^\s(){}.;,@\"«»\[\]|`'’]+(?:'+(?=[\s(){}.;,\[\]|]|$))?")
 FIELD = re.compile(r"^\s+pub ([^\s:]+) :", re.M)
+USE = re.compile(r"\buse ([^\s;{]+)\.\{([^}]*)\}")
 GOAL = re.compile(r"^(\S+) : (?:\{[^}]*\} → )*(?:\([^)]*\) → )*tie\.", re.M)
 
 
@@ -26,6 +28,16 @@ def files(root):
         for path in sorted((root / "crates").glob(pattern)):
             if "out" not in path.relative_to(root).parts:
                 yield path
+
+
+def lent(text, crates):
+    """The names that a file takes from a library: these stay as they are."""
+    found = set()
+    for path, words in USE.findall(text):
+        steps = path.split(".")
+        if steps[0] != "Rattle" or steps[1] not in crates:
+            found.update(w.split(" as ")[0].strip() for w in words.split(","))
+    return found
 
 
 def respelled(text, names, fields, stays=frozenset()):
@@ -49,9 +61,10 @@ def main():
     names = table()
     texts = {p: p.read_text(encoding="utf-8") for p in files(root)}
     fields = {n for p, t in texts.items() if p.suffix == ".antt" for n in FIELD.findall(t)}
+    crates = {p.name for p in (root / "crates").iterdir()}
     changed = 0
     for path, text in texts.items():
-        stays = set(GOAL.findall(text)) if path.suffix == ".antt" else frozenset()
+        stays = lent(text, crates) | (set(GOAL.findall(text)) if path.suffix == ".antt" else set())
         new = respelled(text, names, fields, stays)
         if new != text:
             path.write_text(new, encoding="utf-8")

@@ -2,6 +2,7 @@
 // it runs past the end; and a number put there. A field of at most 16 bits lies in the three bytes around its place. The
 // functions on a slice and a place do the work; the reader further down holds both, and `three` goes through it with plain
 // parameters.
+#![tactic(auto)]
 ghost use Rattle.std.specs.Prelude.{◌≡◌, ◌+◌, ◌-◌, ◌*◌, ◌/◌, ◌%◌, ◌≤◌, ◌<◌, ◌^◌, length, get_or, drop, set};
 ghost use Rattle.std.proofs.lemmas.List.Edits.{sets};
 ghost use Rattle.model.specs.Digits.{number, digits};

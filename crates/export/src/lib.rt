@@ -1,5 +1,6 @@
 // The calls on a sheet for a C program, on numbers and lent buffers: each returns a refusal's number, or 0 after its result
 // words were written. `include/leading.h` declares them, and with `export_weights` and `export_tables` they make the archive that a host links.
+#![tactic(auto)]
 ghost use Rattle.std.specs.Prelude.{◌≡◌, [], ◌∷◌, ◌≤◌, length};
 ghost use Rattle.model.specs.Lists.{filled};
 ghost use Rattle.model.specs.Calls.{Buffers, ending_number, result_words, export_call, test_export, reduce_export};

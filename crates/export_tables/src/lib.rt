@@ -1,5 +1,6 @@
 // The calls on tables for a C program, on numbers and lent buffers: each returns a refusal's number, or 0 after it has written
 // the sheet or the tables. With `export` they make the archive that a host links.
+#![tactic(auto)]
 ghost use Rattle.std.specs.Prelude.{◌≡◌, [], ◌∷◌, ◌≤◌, length, get_or};
 ghost use Rattle.model.specs.Lists.{filled};
 ghost use Rattle.model.specs.TableCalls.{write_export, read_export};

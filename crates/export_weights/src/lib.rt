@@ -1,6 +1,7 @@
 // The listing call on a sheet of edition 2 for a C program, on numbers and lent buffers: it returns a refusal's number, or 0
 // after its result words were written. `include/leading.h` declares it, and with `export` and `export_tables` it makes the
 // archive that a host links.
+#![tactic(auto)]
 ghost use Rattle.std.specs.Prelude.{◌≡◌};
 ghost use Rattle.model.specs.Sheet.{edition2};
 ghost use Rattle.model.specs.Calls.{Buffers, weights_export};

@@ -1,6 +1,7 @@
 // The search on a plant of at most 128 clauses, along the plan that is made for the test (`plan`). It hands down two words
 // and the trials left, and notes in the plan the values that it found; where it finds none from a variable on, it notes by
 // which clauses, and recalls that where it comes to the variable again.
+#![tactic(auto)]
 ghost use Rattle.std.specs.Prelude.{◌≡◌, List, ℕ, length};
 ghost use Rattle.clauses.specs.Numbers.{pair_clauses};
 ghost use Rattle.clauses.specs.Sets.{in_set, in_pair};

@@ -1,5 +1,6 @@
 // The parts of a line to standard output: texts, and numbers in decimal and in hexadecimal. None says what was written;
 // whether it was shows in the comparison with what a program must write.
+#![tactic(auto)]
 use libc::STDOUT_FILENO;
 
 // Writes a text.

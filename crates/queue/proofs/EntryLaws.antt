@@ -1,7 +1,7 @@
 -- An entry tells its node, and entries come as their nodes do: the figure, the departures and the code of the best state stand in it above the mask, and the code keeps the node's values where the widened mask is set. Assumes nothing.
 use mathlib.Core.Path.{◌≡◌, refl, sym, ap, ◌∙◌, subst}
 use mathlib.Core.Logic.{◌⊎◌, inl, inr}
-use mathlib.Core.Bool.{Bool, true, false, or_true}
+use mathlib.Core.Bool.{Bool, true, false, or-true}
 use mathlib.Core.List.{List}
 use Prim.Native.Nat.{ℕ, suc, ◌+◌, ◌-◌, ◌*◌, ◌/◌, ◌%◌, ◌^◌, ◌≤◌, ◌<◌}
 use native.Mathlib.Omega.{arith}
@@ -116,7 +116,7 @@ packed-figure true figure out code mask f l c = omega arith
 by-words : (x y : Item) → (x.0 < y.0) ⊎ ((x.0 ≡ y.0) × (x.1 < y.1)) → comes_before x y ≡ true
 unfolding comes_before
 by-words x y (inl l) = rw (lt-ltb x.0 y.0 l)
-by-words x y (inr h) = rw (eq-eqb x.0 y.0 h.0, lt-ltb x.1 y.1 h.1) (or_true (ltb x.0 y.0))
+by-words x y (inr h) = rw (eq-eqb x.0 y.0 h.0, lt-ltb x.1 y.1 h.1) (or-true (ltb x.0 y.0))
 
 -- what decides between the entries of two nodes, from the figures, departures and codes of their best states
 abbrev FirstOf : Bool → (f o c g p d : ℕ) → Type 0

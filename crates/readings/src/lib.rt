@@ -1,6 +1,7 @@
 // What the reader of a plant sheet goes by in all its parts: what reading a part comes to, how many bits a part has, and how
 // long the tables are that hold the largest plant. The definitions have the same names, in `specs/Lengths` and in the
 // theory's `specs/Longest`: `head_bits` is HEAD_BITS.
+#![tactic(auto)]
 use limits::{CLAUSES, DECISIONS, LITERALS, VALUES, VARIABLES};
 
 // State variables of a plant.

@@ -1,6 +1,7 @@
 // Replays the listings that `outside/vectors.py listings` writes: reads them from standard input, makes each call, of
 // either edition, in buffers of the lengths and words that the case says, and prints its answer and a checksum of every lent word. What it
 // must print was written by the outside program.
+#![tactic(auto)]
 ghost use Rattle.std.specs.Prelude.{◌≡◌, ◌≤◌, length};
 ghost use Rattle.vectors.specs.Bytes.{over, mix, mix64};
 

@@ -1,6 +1,7 @@
 // Replays the sheets that `outside/vectors.py sheets` writes: reads plant sheets from standard input and prints a line for
 // each, the refusal's number or the counts and a checksum of the decoded tables. What it must print was written by the
 // outside reader.
+#![tactic(auto)]
 ghost use Rattle.std.specs.Prelude.{◌≤◌, length};
 ghost use Rattle.readings.specs.Lengths.{size_entries, cost_entries, count_entries, literal_bytes};
 

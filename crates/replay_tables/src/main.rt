@@ -1,6 +1,7 @@
 // Replays the tables that `outside/vectors.py tables` writes: reads them from standard input, writes each case's sheet into a
 // buffer of the length and the byte that the case says, reads a written sheet into lent tables, and prints both answers with
 // checksums of every lent byte. What it must print was written by the outside program.
+#![tactic(auto)]
 ghost use Rattle.std.specs.Prelude.{◌≡◌, ◌≤◌, length};
 ghost use Rattle.vectors.specs.Bytes.{checksum_start, over, mix, mix16};
 

@@ -1,5 +1,6 @@
 // Reads tests and reductions from standard input, as outside/vectors.py writes them, makes each call and prints its answer,
 // and of a test a checksum of the bytes that it shows. What it must print was written by the outside program.
+#![tactic(auto)]
 use answers::print_refusal;
 use conflict_call::{ReduceAnswer, TestAnswer};
 use printing::{print_hex8, print_hex16, print_number, print_text};

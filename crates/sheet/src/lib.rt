@@ -3,6 +3,7 @@
 // The tables are the caller's: `sizes` holds the domain sizes, decision variables first; `costs` sixteen entries for each
 // decision variable, of costs or of weights; `counts` the literal count of each clause; `lits` the literals in reading order, three bytes each.
 // After a refusal, and beyond what was read, the tables hold anything.
+#![tactic(auto)]
 ghost use Rattle.std.specs.Prelude.{◌≡◌, ◌+◌, ◌≤◌, ◌<◌, ◌^◌, length, get_or, eqb};
 ghost use Rattle.model.specs.Sheet.{edition_of, read_end, read_body, read_sheet, Plant};
 ghost use Rattle.theory.specs.Longest.{head_bits};

@@ -1,7 +1,7 @@
 -- The order by figure, then departures, then code, and that it is lawful for either edition. Assumes nothing.
 use mathlib.Core.Path.{◌≡◌, refl, sym, ◌∙◌}
 use mathlib.Core.Logic.{◌⊎◌, inl, inr, ◌↔◌}
-use mathlib.Core.Bool.{Bool, true, false, ◌&&◌, ◌||◌, or_true, false≢true}
+use mathlib.Core.Bool.{Bool, true, false, ◌&&◌, ◌||◌, or-true, false≢true}
 use mathlib.Core.List.{List, [], ◌∷◌, map}
 use Prim.Native.Nat.{ℕ, zero, suc, ◌+◌, ◌-◌, ◌^◌, ◌≤◌, ◌<◌}
 use native.Mathlib.Omega.{arith}
@@ -73,7 +73,7 @@ either_exactly {A} {B} {C} s t u a b c = (to s t u a.0 b.0 c.0, from s t u a.1 b
 
     from : {A B C : Type 0} (s t u : Bool) → (A → s ≡ true) → (B → t ≡ true) → (C → u ≡ true) → A ⊎ (B × C) → (s || (t && u)) ≡ true
     from s t u a b c (inl x) = rw (a x)
-    from s t u a b c (inr x) = rw (b x.0, c x.1) (or_true s)
+    from s t u a b c (inr x) = rw (b x.0, c x.1) (or-true s)
 
 -- the test of the order says that exactly
 pub before_exactly : (o : Order) (f g : List ℕ) → (before o f g ≡ true) ↔ Sooner o f g

@@ -8,6 +8,7 @@ use native.Mathlib.Omega.{arith}
 use native.Mathlib.Nat.{mod-eq_of_lt}
 use lib.Bits.{bit_and, bit_or, bit_xor, and_lt, or_lt, xor_lt, and_zero_r, or_zero_r, xor_self, xor_comm, and_mask, and_le_l, and_le_r, or_add_and, xor_add_and}
 use lib.Dec.{eqb}
+use Rattle.std.proofs.lemmas.Nat.{le_or_l}
 use lib.ListN.{length, replicate, length-map}
 use borrow.Author.Tests.{eq-eqb, ne_eqb, eqb-true, eqb-false}
 use Rattle.model.specs.Lists.{All}
@@ -132,7 +133,7 @@ masked-zero x y h k = rw (whole (bit_xor x y) (xor_lt 4 x y h k)) (xor_zero x y)
 contains-nibble : (o p : Option ℕ) → Under 16 o → Under 16 p
     → eqb (bit_or (bit_xor (bit_and (spread o) (spread p)) (spread p)) (bit_and (bit_xor (nibble o) (nibble p)) (spread p))) 0 ≡ contains o p
 contains-nibble o none u t = rw (and_zero_r (spread o), and_zero_r (bit_xor (nibble o) 0))
-contains-nibble none (some y) u t = ne_eqb (bit_or 15 (bit_and (bit_xor 0 y) 15)) 0 (λ e. omega arith)
+contains-nibble none (some y) u t = ne_eqb (bit_or 15 (bit_and (bit_xor 0 y) 15)) 0 (λ e. omega (arith, le_or_l 15 (bit_and (bit_xor 0 y) 15)))
 contains-nibble (some x) (some y) u t = masked-zero x y u t
 
 -- the same from whether the two are the same, value and mask

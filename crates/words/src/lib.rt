@@ -3,6 +3,7 @@
 // formed and compared, the last for all variables at once. `Words` says that two words are those of an assignment, `Wide`
 // the same of a widened mask and values; for such words each answer is an equation with the model. Nothing relies on there
 // being a variable.
+#![tactic(auto)]
 ghost use Rattle.std.specs.Prelude.{◌≡◌, ◌||◌, List, ℕ, ◌*◌, ◌<◌, ◌≤◌, length, get_or, take, drop, set, eqb};
 ghost use Rattle.std.proofs.Math.Option.{none};
 ghost use Rattle.model.specs.Digits.{digits};
