@@ -2,6 +2,7 @@
 // or by a sheet of edition 2 the one of greatest weight, and the lowest on a tie. Nothing below a run looks at costs or
 // weights to find a best value: the root is this word, and a child's best state has one of its digits replaced.
 #![tactic(auto)]
+
 ghost use Rattle.std.specs.Prelude.{◌≡◌, List, ℕ, ◌*◌, ◌≤◌, length, take};
 ghost use Rattle.model.specs.Lists.{All};
 ghost use Rattle.model.specs.Sheet.{Plant};

@@ -1,6 +1,7 @@
 // Texts put into a lent buffer at a place: bytes, and numbers by their digits. Each function answers with the place after
 // what it put; `Puts` says so, and that every other byte stays.
 #![tactic(auto)]
+
 ghost use Rattle.std.specs.Prelude.{◌+◌, ◌<◌, ◌≤◌, ◌≡◌, map, length};
 ghost use Rattle.model.specs.Digits.{digits};
 ghost use Rattle.model.specs.Text.{digit_byte, decimal, hexadecimal};

@@ -4,6 +4,7 @@
 // the same of a widened mask and values; for such words each answer is an equation with the model. Nothing relies on there
 // being a variable.
 #![tactic(auto)]
+
 ghost use Rattle.std.specs.Prelude.{◌≡◌, ◌||◌, List, ℕ, ◌*◌, ◌<◌, ◌≤◌, length, get_or, take, drop, set, eqb};
 ghost use Rattle.std.proofs.Math.Option.{none};
 ghost use Rattle.model.specs.Digits.{digits};

@@ -1,0 +1,26 @@
+-- `tables::mark_clause` meets its contract. The loop: the rows of the literals from i on are still to come. Assumes nothing.
+use mathlib.Core.Path.{◌≡◌, refl, ◌∙◌}
+use Prim.Native.Nat.{◌-◌, ◌≤◌, ◌<◌}
+use lib.ListN.{length, drop}
+use Rattle.model.specs.Lists.{All}
+use Rattle.model.specs.Tables.{literals}
+use Rattle.theory.specs.Search.{mentions}
+use Rattle.clauses.specs.Numbers.{variables}
+use Rattle.clauses.specs.Sets.{clause_rows}
+use Rattle.clauses.proofs.Marks.{Marking, marking_first, marking_step, marking_end}
+use Rattle.clauses.proofs.Parts.{below_step, rows_step, rows_none, mentions-step, mentions-none}
+use native.Mathlib.Omega.{arith}
+use borrow.Author.Rules.{rules}
+use Rattle.clauses.proofs.tables.mark_clause.Given as goal
+
+abbrev pub invariant-loop-i : goal.invariant-loop-i
+invariant-loop-i l =
+    (l.i ≤ length l.part)
+    × (length l.sat ≡ length l.initial.sat)
+    × (length l.uses ≡ length l.initial.uses)
+    × All (λ l. l.variable < variables) (literals (drop l.i l.part))
+    × Marking (clause_rows (literals (drop l.i l.part))) (clause_rows (literals l.part)) l.initial.sat l.c l.sat
+    × Marking (λ v. mentions v (literals (drop l.i l.part))) (λ v. mentions v (literals l.part)) l.initial.uses l.c l.uses
+
+abbrev pub decreases-loop-i : goal.decreases-loop-i
+decreases-loop-i l = length l.part - l.i

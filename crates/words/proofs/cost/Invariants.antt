@@ -1,0 +1,19 @@
+-- `words::cost` meets its contract. The loop's invariant: the sum so far, with what the variables left cost, is the cost. Assumes nothing.
+use Prim.Native.Nat.{◌+◌, ◌-◌, ◌*◌, ◌≤◌}
+use mathlib.Core.Path.{◌≡◌}
+use mathlib.Core.Bool.{false}
+use native.Mathlib.Omega.{arith}
+use native.Mathlib.Nat.{zero-add, sub-zero}
+use borrow.Author.Rules.{rules}
+use Rattle.model.specs.Digits.{digits}
+use Rattle.model.specs.Order.{cost}
+use Rattle.theory.specs.Words.{sixteens}
+use Rattle.theory.proofs.Digits.{digits_length}
+use Rattle.words.proofs.Loops.{figure_from, figure-step, figure-end}
+use Rattle.words.proofs.cost.Given as goal
+
+abbrev pub invariant-loop-v : goal.invariant-loop-v
+invariant-loop-v l = (l.v ≤ l.d) × (l.sum ≤ 65535 * l.v) × (l.sum + figure_from false l.d l.costs (digits 16 16 l.code) l.v ≡ cost (sixteens l.d l.costs) (digits 16 16 l.code))
+
+abbrev pub decreases-loop-v : goal.decreases-loop-v
+decreases-loop-v l = l.d - l.v
