@@ -12,6 +12,7 @@ use Rattle.children.specs.Children.{Tables, Step}
 use Rattle.children.proofs.Walk.{size_small, size_is}
 use Rattle.children.proofs.Members.{Midway, midway_start, midway_end, here, midway_skip, here-free, here-small, midway_next, midway_full}
 use Rattle.children.proofs.resolve.Goals as goal
+use Rattle.children.proofs.resolve.Goals.{then-y-lt-VALUES+in-Entries, else-y-lt-VALUES}
 
 pub loop-v-init : goal.loop-v-init
 loop-v-init c = (omega arith, refl, λ s t k w valid. midway_start s k valid)
@@ -44,24 +45,24 @@ loop-v-preserved c =
     let l = c.loop-v in
     let t = c.loop-v-test.true in
     let y = c.wanted-y in
-    ⊎_elim
-    (λ a. (
-      omega arith,
-      ap length a.11 ∙ a.4.kept.1.1.1.1.1.1.1.0 ∙ l.invariant.1,
-      λ s tables k w valid.
-          let h = l.invariant.2 s tables k w valid in
-          let f = here-free s k valid tables _ _ _ _ h l.invariant.1 t _ _ _ w y.ensures a.0.taken in
-          let i = a.2.ensures in
-          let child = a.10.ensures s.plant h.held h.is f (here-small s k valid tables _ _ _ _ h l.invariant.1 t _ _ _ w y.ensures a.0.taken) in
-          rw (a.11, a.12, a.13) (midway_next s k valid tables _ _ _ _ h l.invariant.1 t _ _ _ w y.ensures a.0.taken _ _ _ child
-          (rw (a.8.given.1, i) at (a.4.ensures (here s k valid tables _ _ _ _ h l.invariant.1 t) f (i ∙ size_is tables _ t)))),
-    ))
-    (λ a. (
-      omega arith,
-      ap length a.1 ∙ l.invariant.1,
-      λ s tables k w valid. rw (a.1, a.2, a.3) (midway_skip s k valid tables _ _ _ _ (l.invariant.2 s tables k w valid) l.invariant.1 t _ _ _ w y.ensures a.0.left),
-    ))
-    c.if-y-lt-VALUES.branch
+    elim c.if-y-lt-VALUES.branch [
+      | then-y-lt-VALUES+in-Entries w ↦ (
+        omega arith,
+        ap length w.queue-is ∙ w.put_values.auto.queue ∙ l.invariant.1,
+        λ s tables k q valid.
+            let h = l.invariant.2 s tables k q valid in
+            let f = here-free s k valid tables _ _ _ _ h l.invariant.1 t _ _ _ q y.ensures w.if-y-lt-VALUES.true in
+            let i = w.wide.ensures in
+            let child = w.given-next.ensures s.plant h.held h.is f (here-small s k valid tables _ _ _ _ h l.invariant.1 t _ _ _ q y.ensures w.if-y-lt-VALUES.true) in
+            rw (w.queue-is, w.passed-is, w.entries-is) (midway_next s k valid tables _ _ _ _ h l.invariant.1 t _ _ _ q y.ensures w.if-y-lt-VALUES.true _ _ _ child
+            (rw (w.in-Entries.is, i) at (w.put_values.ensures (here s k valid tables _ _ _ _ h l.invariant.1 t) f (i ∙ size_is tables _ t)))),
+      )
+      | else-y-lt-VALUES w ↦ (
+        omega arith,
+        ap length w.queue-is ∙ l.invariant.1,
+        λ s tables k q valid. rw (w.queue-is, w.passed-is, w.entries-is) (midway_skip s k valid tables _ _ _ _ (l.invariant.2 s tables k q valid) l.invariant.1 t _ _ _ q y.ensures w.if-y-lt-VALUES.false),
+      )
+    ]
 
 pub shape_of-queue : goal.shape_of-queue
 shape_of-queue c = c.loop-v.invariant.1
