@@ -23,7 +23,7 @@ use limits::{UNASSIGNED, VALUES, wide};
 const NO_VALUE: usize = UNASSIGNED as usize;
 
 // A node: its mask, the code of its best state and the figure of that state.
-#[derive(Drop)]
+#[derive(Clone, Copy)]
 pub struct Node {
     pub mask: u64,
     pub code: u64,

@@ -7,6 +7,7 @@ use lib.ListN.{length, length-set}
 use Rattle.clauses.specs.Numbers.{variables}
 use Rattle.plan.proofs.Filled.{Filling, filling_first, filling_past, filling_free, filling_end}
 use Rattle.plan.proofs.fill.Goals as goal
+use Rattle.plan.proofs.fill.Goals.{then-vals-v-eq-UNASSIGNED, else-vals-v-eq-UNASSIGNED}
 
 pub loop-v-init : goal.loop-v-init
 loop-v-init c = (filling_first _ _, c.requires)
@@ -26,16 +27,19 @@ overflow_add-v c = omega (arith, c.loop-v.invariant.0.long, c.loop-v.invariant.1
 pub loop-v-smaller : goal.loop-v-smaller
 loop-v-smaller c =
     let l = c.loop-v in
-    let same : length c.if-vals-v-eq-UNASSIGNED.vals ≡ length l.vals = ⊎_elim (λ d. ap length d.2 ∙ length-set l.vals _ _) (λ d. ap length d.1) c.if-vals-v-eq-UNASSIGNED.branch in
+    let same : length c.if-vals-v-eq-UNASSIGNED.vals ≡ length l.vals = elim c.if-vals-v-eq-UNASSIGNED.branch [
+      | then-vals-v-eq-UNASSIGNED d ↦ ap length d.vals-is ∙ length-set l.vals _ _
+      | else-vals-v-eq-UNASSIGNED d ↦ ap length d.vals-is
+    ] in
     omega (arith, c.loop-v-test.true)
 
 pub loop-v-preserved : goal.loop-v-preserved
 loop-v-preserved c =
     let l = c.loop-v in
-    ⊎_elim
-    (λ d. (rw d.2 (filling_free _ _ _ _ l.invariant.0 c.loop-v-test.true d.0.taken), l.invariant.1))
-    (λ d. (rw d.1 (filling_past _ _ _ _ l.invariant.0 d.0.left), l.invariant.1))
-    c.if-vals-v-eq-UNASSIGNED.branch
+    elim c.if-vals-v-eq-UNASSIGNED.branch [
+      | then-vals-v-eq-UNASSIGNED d ↦ (rw d.vals-is (filling_free _ _ _ _ l.invariant.0 c.loop-v-test.true d.if-vals-v-eq-UNASSIGNED.true), l.invariant.1)
+      | else-vals-v-eq-UNASSIGNED d ↦ (rw d.vals-is (filling_past _ _ _ _ l.invariant.0 d.if-vals-v-eq-UNASSIGNED.false), l.invariant.1)
+    ]
 
 pub shape_of-vals : goal.shape_of-vals
 shape_of-vals c = c.loop-v.invariant.0.long

@@ -36,9 +36,9 @@ loop-i-preserved c =
     let loop = c.loop-i in
     let row = c.row in
     let bounds = within 16 _ c.in-Got.is row.ensures.1 in
-    let part = row.new.1.1.1.0 in
+    let part = row.new.costs in
     let n = c.in-Got.size in
-    let long = part-long loop.costs part (16 * loop.i) 16 row.auto.1.1.1.0 (omega arith) in
+    let long = part-long loop.costs part (16 * loop.i) 16 row.auto.costs (omega arith) in
     let more = rows_write loop.sizes loop.costs part loop.i n (omega arith) (omega arith) bounds.0 in (
       omega arith,
       omega (arith, bounds.1),

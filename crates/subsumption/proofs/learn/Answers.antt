@@ -9,5 +9,5 @@ returns c =
     record {
       few = omega arith;
       kept = λ d conflicts n k w l.
-          c.append.ensures.kept d _ n (c.push_out-others.ensures.kept.0 d conflicts n k (wide-words w c.widened.ensures) l) w l;
+          c.append.ensures.kept d _ n (c.push_out-others.ensures.kept d conflicts n k (wide-words w c.widened.ensures) l) w l;
     }

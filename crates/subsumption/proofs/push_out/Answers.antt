@@ -55,11 +55,9 @@ pub returns : goal.returns
 returns c =
     let s = c.args in
     let h = c.loop-i in
-    let all : h.i ≡ s.m = omega arith in (
-      omega arith,
-      (
-        λ d conflicts n k w l.
-            closing_end (rw (keep-past (λ s. not (manifests s n)) conflicts h.i (omega (arith, k.count))) at (h.invariant.4 d conflicts n k w l)),
-        rw all at h.invariant.3,
-      ),
-    )
+    let all : h.i ≡ s.m = omega arith in record {
+      few = omega arith;
+      kept = λ d conflicts n k w l.
+          closing_end (rw (keep-past (λ s. not (manifests s n)) conflicts h.i (omega (arith, k.count))) at (h.invariant.4 d conflicts n k w l));
+      behind = rw all at h.invariant.3;
+    }
