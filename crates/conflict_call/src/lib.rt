@@ -1,6 +1,7 @@
 // The test and the reduction as calls on a plant sheet and two words, whatever these are: what refuses the sheet or the
 // words, and whose fault that is, or else what the test and the reduction answer. A test also gives the bytes that it shows.
 #![tactic(auto)]
+
 ghost use Rattle.std.specs.Prelude.{◌≡◌, ◌≤◌, length, replicate, take};
 ghost use Rattle.model.specs.Consistency.{test};
 ghost use Rattle.model.specs.Conflict.{reduce_alone};

@@ -3,6 +3,7 @@
 // entries go about in a `Progress`; `Standing` says for which state of the model the words stand, `NextIs` that a step
 // makes of the words what the model makes of the state.
 #![tactic(auto)]
+
 ghost use Rattle.std.specs.Prelude.{◌≡◌, true, List, ℕ, ◌+◌, ◌*◌, ◌/◌, ◌≤◌, ◌<◌, length};
 ghost use Rattle.model.specs.Assignment.{is_full};
 ghost use Rattle.model.specs.Calls.{state_bytes};
