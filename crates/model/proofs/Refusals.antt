@@ -2,7 +2,7 @@
 use Rattle.std.specs.Prelude.{◌≡◌, refl, List, [], ◌∷◌, ◌++◌, map, ℕ, ◌*◌, take}
 use Rattle.model.specs.Lists.{values_from}
 use Rattle.model.specs.Calls.{by_host, by_author, state_bytes}
-use Rattle.model.specs.Examples.{Settings, Row, ◌gives◌, refusal, answers, expected, plain, tail, small, damaged, seventeen, three, as_p1}
+use Rattle.model.proofs.Examples.{Settings, Row, ◌gives◌, refusal, answers, expected, plain, tail, small, damaged, seventeen, three, as_p1}
 
 -- ---- sheets
 

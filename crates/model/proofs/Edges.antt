@@ -6,7 +6,7 @@ use Rattle.model.specs.Sheet.{Plant, Read, edition1, read_sheet}
 use Rattle.model.specs.Consistency.{holds_at, literal_holds, clause_holds, all_hold}
 use Rattle.model.specs.Order.{before, order_of, is_consistent, leading_states, whole_set}
 use Rattle.model.specs.Listing.{Ending, enough, all, full, Next, ended, more, listing}
-use Rattle.model.specs.Examples.{Settings, Row, ◌gives◌, lists, shows, strikes, call, answers, expected, plain, tail, small, both, selector, three, as_p1}
+use Rattle.model.proofs.Examples.{Settings, Row, ◌gives◌, lists, shows, strikes, call, answers, expected, plain, tail, small, both, selector, three, as_p1}
 
 -- the mask of the clutch alone, and of every second variable like it
 abbrev pub second : ℕ

@@ -6,9 +6,9 @@ use Rattle.model.specs.Sheet.{Plant, Edition, edition1, edition2}
 use Rattle.model.specs.Consistency.{holds_at, literal_holds, clause_holds, all_hold}
 use Rattle.model.specs.Order.{Entry, departures, first_of_equal, before, order_of, is_consistent, leading_states, whole_set}
 use Rattle.model.specs.Listing.{enough, all, listing}
-use Rattle.model.specs.Examples.{Row, Wanted, ◌gives◌, lists, shows, call, answers, expected, plain, selector}
-use Rattle.model.specs.Edges.{listed_of}
-use Rattle.model.specs.Weights.{weight_answers}
+use Rattle.model.proofs.Examples.{Row, Wanted, ◌gives◌, lists, shows, call, answers, expected, plain, selector}
+use Rattle.model.proofs.Edges.{listed_of}
+use Rattle.model.proofs.Weights.{weight_answers}
 
 -- ---- the customer's plant, and its like with weights
 

@@ -3,10 +3,10 @@ use Rattle.std.specs.Prelude.{◌≡◌, refl, List, [], ◌∷◌, map, ℕ, re
 use Rattle.model.specs.Conflict.{reduce_alone}
 use Rattle.model.specs.Listing.{enough, all, full}
 use Rattle.model.specs.Calls.{by_host, by_author, Called, shown_by, word_grounds, on_words, test_call, reduce_call, Exported, exported_of, export_with, export_call, test_export, reduce_export}
-use Rattle.model.specs.Examples.{Settings, Row, ◌gives◌, refusal, lists, strikes, call, lent, ran_with, whole, plain, tail, small, empty_clause, both, selector, three, as_p1}
-use Rattle.model.specs.Edges.{second}
-use Rattle.model.specs.Alone.{mixed}
-use Rattle.model.specs.Refusals.{other_edition, lengths, values_of}
+use Rattle.model.proofs.Examples.{Settings, Row, ◌gives◌, refusal, lists, strikes, call, lent, ran_with, whole, plain, tail, small, empty_clause, both, selector, three, as_p1}
+use Rattle.model.proofs.Edges.{second}
+use Rattle.model.proofs.Alone.{mixed}
+use Rattle.model.proofs.Refusals.{other_edition, lengths, values_of}
 
 -- ---- the listing
 

@@ -4,7 +4,7 @@ use Rattle.model.specs.Digits.{digits}
 use Rattle.model.specs.Listing.{enough, all, full, Ending}
 use Rattle.model.specs.Calls.{Counts}
 use Rattle.model.specs.Text.{bytes, decimal, hexadecimal, state_line, state_lines, ending_word, counts_line, ending_line, refusal_line, answer_text, wanted_states, trial_limit, program_buffers, leading_text}
-use Rattle.model.specs.Examples.{call, tail, small, empty_clause, seventeen}
+use Rattle.model.proofs.Examples.{call, tail, small, empty_clause, seventeen}
 
 -- decision variables with costs 0, 300, 2, 40, 5 and with costs 7, 1, 0, 6; no clauses: twenty states
 unfoldable pub twenty : List ℕ

@@ -4,10 +4,10 @@ use Rattle.model.specs.Lists.{values_from}
 use Rattle.model.specs.Consistency.{Tested, consistent, inconsistent}
 use Rattle.model.specs.Listing.{Ending, enough, all}
 use Rattle.model.specs.Calls.{value_bytes, shown_by, state_values}
-use Rattle.model.specs.Examples.{Row, ◌gives◌, shows, answers, expected, plain}
-use Rattle.model.specs.Edges.{thirty_two_states}
-use Rattle.model.specs.Alone.{mixed}
-use Rattle.model.specs.Refusals.{values_of}
+use Rattle.model.proofs.Examples.{Row, ◌gives◌, shows, answers, expected, plain}
+use Rattle.model.proofs.Edges.{thirty_two_states}
+use Rattle.model.proofs.Alone.{mixed}
+use Rattle.model.proofs.Refusals.{values_of}
 
 -- a test that is consistent, of four variables and of as many as can be; one that is inconsistent, and one that is spent
 unfoldable pub tests : List Tested

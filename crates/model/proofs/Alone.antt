@@ -4,9 +4,9 @@ use Rattle.std.proofs.Math.Option.{none, some}
 use Rattle.model.specs.Consistency.{Tested, consistent, inconsistent}
 use Rattle.model.specs.Conflict.{Reduced, conflict, ReducedAlone, nothing, reduced, reduce_alone}
 use Rattle.model.specs.Calls.{by_host, by_author, Answered, refused, answered, word_grounds, on_words, test_call, reduce_call}
-use Rattle.model.specs.Examples.{call, tail, small, empty_clause, both, selector}
-use Rattle.model.specs.Edges.{second, one_of_six, state_of_sixteen}
-use Rattle.model.specs.Refusals.{other_edition}
+use Rattle.model.proofs.Examples.{call, tail, small, empty_clause, both, selector}
+use Rattle.model.proofs.Edges.{second, one_of_six, state_of_sixteen}
+use Rattle.model.proofs.Refusals.{other_edition}
 
 -- decision variables of two and of three values, state variables of three and of two; the clauses: 2≠0 or 1=1; 3=1 or 2=2; 0=1 or 2=1; 1≠2 or 3≠1
 unfoldable pub mixed : List ℕ

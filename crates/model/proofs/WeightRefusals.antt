@@ -7,9 +7,9 @@ use Rattle.model.specs.Conflict.{Reduced, conflict, ReducedAlone, nothing, reduc
 use Rattle.model.specs.Calls.{by_host, by_author, Answered, refused, answered, word_grounds, on_words, test_call, reduce_call}
 use Rattle.model.specs.Tables.{Tables}
 use Rattle.model.specs.TableCalls.{read_tables}
-use Rattle.model.specs.Examples.{Row, ◌gives◌, refusal, answers, expected, plain, tail, small, both, selector}
-use Rattle.model.specs.Refusals.{other_edition, lengths, values_of}
-use Rattle.model.specs.Weights.{weight_call, weight_answers, weight_tail, small_weights, hidden_two, eight_parts}
+use Rattle.model.proofs.Examples.{Row, ◌gives◌, refusal, answers, expected, plain, tail, small, both, selector}
+use Rattle.model.proofs.Refusals.{other_edition, lengths, values_of}
+use Rattle.model.proofs.Weights.{weight_call, weight_answers, weight_tail, small_weights, hidden_two, eight_parts}
 
 -- ---- sheets
 

@@ -7,9 +7,9 @@ use Rattle.model.specs.Consistency.{holds_at, literal_holds, clause_holds, all_h
 use Rattle.model.specs.Order.{Order, better, join, cost, chance, best_value, before, order_of, is_consistent, leading_states, whole_set}
 use Rattle.model.specs.Listing.{Ending, enough, all, full}
 use Rattle.model.specs.Calls.{Called, Exported, exported_of, export_with, weights_call, weights_export, by_host, by_author}
-use Rattle.model.specs.Examples.{Settings, Row, Wanted, ◌gives◌, refusal, lists, shows, strikes, lent, call, expected, plain, tail, small, both, selector, three}
-use Rattle.model.specs.Edges.{second, small_plant}
-use Rattle.model.specs.Exports.{ExportRow, exporting, export_wanted, nines}
+use Rattle.model.proofs.Examples.{Settings, Row, Wanted, ◌gives◌, refusal, lists, shows, strikes, lent, call, expected, plain, tail, small, both, selector, three}
+use Rattle.model.proofs.Edges.{second, small_plant}
+use Rattle.model.proofs.Exports.{ExportRow, exporting, export_wanted, nines}
 
 -- whoever unfolds this unfolds every definition of the listing
 unfoldable pub weight_call : Settings → Called

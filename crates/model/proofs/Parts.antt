@@ -10,7 +10,7 @@ use Rattle.model.specs.Conflict.{Conflict, Minimal, manifests, resolves}
 use Rattle.model.specs.Order.{Order, before, cheapest, best, product, every, order_of, is_consistent, leading_states, whole_set}
 use Rattle.model.specs.Listing.{State, Ending, ended, resolving, branching, most_tested, spent_in_test, judge}
 use Rattle.model.specs.Calls.{run_list}
-use Rattle.model.specs.Edges.{small_plant}
+use Rattle.model.proofs.Edges.{small_plant}
 
 -- ---- the greatest count of tests
 

@@ -3,8 +3,8 @@ use Rattle.std.specs.Prelude.{◌≡◌, refl, List, [], ◌∷◌, map}
 use Rattle.std.proofs.Math.Option.{none, some}
 use Rattle.model.specs.Assignment.{Assignment}
 use Rattle.model.specs.Listing.{Ending, all, full, stored, survivors_of}
-use Rattle.model.specs.Examples.{Row, ◌gives◌, lists, answers, expected, plain, tail, small, both, selector, three}
-use Rattle.model.specs.Edges.{second, one_of_six, third_fails}
+use Rattle.model.proofs.Examples.{Row, ◌gives◌, lists, answers, expected, plain, tail, small, both, selector, three}
+use Rattle.model.proofs.Edges.{second, one_of_six, third_fails}
 
 -- ---- conflicts alone
 

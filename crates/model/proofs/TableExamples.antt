@@ -5,9 +5,9 @@ use Rattle.model.specs.Sheet.{bit_at, bits_at, then, many, field, edition1, edit
 use Rattle.model.specs.Calls.{Refusal, by_host, by_author, first_given, refused}
 use Rattle.model.specs.Tables.{Tables, total, cost_rows, literals, clauses, plant_written, packed, sheet_of}
 use Rattle.model.specs.TableCalls.{Wrote, unwritten, wrote, lengths_agree, fields_fit, length_grounds, literal_grounds, table_grounds, room_grounds, write_sheet, write_call, read_tables, front_tables, write_export, read_export}
-use Rattle.model.specs.Examples.{tail, small, damaged}
-use Rattle.model.specs.Edges.{one_variable, one_value}
-use Rattle.model.specs.Refusals.{other_edition, longer}
+use Rattle.model.proofs.Examples.{tail, small, damaged}
+use Rattle.model.proofs.Edges.{one_variable, one_value}
+use Rattle.model.proofs.Refusals.{other_edition, longer}
 
 -- ---- tables
 
