@@ -20,7 +20,7 @@ use sheet::{COST_ENTRIES, COUNT_ENTRIES, LITERAL_BYTES, SIZE_ENTRIES};
 use trials::Answer;
 
 // What the test answers, with its trials.
-#[derive(Drop)]
+#[derive(Clone, Copy)]
 pub enum TestAnswer {
     Refused(Refusal),
     Consistent(u32),
@@ -36,7 +36,7 @@ pub struct TestShown {
 }
 
 // What the reduction answers, with its trials; a conflict by its two words.
-#[derive(Drop)]
+#[derive(Clone, Copy)]
 pub enum ReduceAnswer {
     Refused(Refusal),
     None(u32),

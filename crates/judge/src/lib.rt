@@ -22,7 +22,7 @@ use text::put_bytes;
 use trials::Answer;
 
 // How far a run is: the entries of queue and store, the states listed, and the counts.
-#[derive(Drop)]
+#[derive(Clone, Copy)]
 pub struct Progress {
     pub queued: usize,
     pub stored: usize,
@@ -48,7 +48,7 @@ impl Progress {
 }
 
 // The four endings.
-#[derive(Drop)]
+#[derive(Clone, Copy)]
 pub enum Ending {
     Enough,
     All,
@@ -57,7 +57,7 @@ pub enum Ending {
 }
 
 // After a step: the run goes on, or it has ended.
-#[derive(Drop)]
+#[derive(Clone, Copy)]
 pub enum Next {
     More(Progress),
     Ended(Ending, Progress),

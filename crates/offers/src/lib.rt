@@ -17,7 +17,7 @@ use plan::Plan;
 use trials::Answer;
 
 // How many entries survive, with the trials made: all were checked, or the limit struck before.
-#[derive(Drop)]
+#[derive(Clone, Copy)]
 pub enum Offered {
     Checked(usize, u32),
     BrokenOff(usize, u32),

@@ -7,7 +7,7 @@ ghost use Rattle.model.specs.Calls.{refusal_number};
 ghost use Rattle.refusal.specs.Refusal.{refusal_of};
 
 // Who caused a refusal, and its number.
-#[derive(Drop)]
+#[derive(Clone, Copy)]
 pub enum Refusal {
     Host(u32),
     Author(u32),
@@ -24,7 +24,7 @@ pub fn number(r: Refusal) -> u32
 }
 
 // What a call that only writes out bytes answers: a refusal, which says whose, or how many bytes it wrote.
-#[derive(Drop)]
+#[derive(Clone, Copy)]
 pub enum Written {
     Refused(Refusal),
     Bytes(u32),
