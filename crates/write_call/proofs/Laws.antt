@@ -13,7 +13,7 @@ use borrow.Author.Tests.{lt-ltb, le-ltb, not-false}
 use Rattle.model.specs.Lists.{All}
 use Rattle.model.specs.Sheet.{edition1}
 use Rattle.model.specs.Calls.{by_host, by_author, first_given, Answered, answered}
-use Rattle.model.specs.Tables.{Tables, total, literals, plant_of, sheet_of}
+use Rattle.model.specs.Tables.{Tables, total, plant_of, sheet_of}
 use Rattle.model.specs.TableCalls.{unwritten, lengths_agree, length_grounds, table_grounds, room_grounds, write_sheet, write_call}
 use Rattle.theory.specs.Digits.{Below}
 use Rattle.theory.specs.WriteRead.{WritePromises}

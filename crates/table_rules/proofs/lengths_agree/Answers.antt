@@ -1,7 +1,6 @@
 -- `table_rules::lengths_agree` meets its contract: its tests are the model's, in their order. Assumes nothing.
 use mathlib.Core.Path.{sym, ◌∙◌}
 use native.Mathlib.Omega.{arith}
-use borrow.Author.Rules.{rules}
 use lib.ListN.{length-take}
 use lib.Seq.{length-take-le}
 use Rattle.table_rules.proofs.Laws.{sizes_disagree, costs_disagree, counts_disagree, literals-agree}

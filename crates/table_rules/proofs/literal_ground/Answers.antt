@@ -1,12 +1,6 @@
 -- `table_rules::literal_ground` meets its contract: the first ground of all literals is that of those that are left. Assumes nothing.
-use mathlib.Core.Path.{◌≡◌, refl, sym, ap, ◌∙◌}
-use Prim.Native.Nat.{◌-◌, ◌≤◌}
+use mathlib.Core.Path.{refl, sym, ap, ◌∙◌}
 use native.Mathlib.Omega.{arith}
-use lib.ListN.{length, drop}
-use Rattle.model.specs.Lists.{in_turn}
-use Rattle.model.specs.Calls.{first_given}
-use Rattle.model.specs.Tables.{literals}
-use Rattle.model.specs.TableCalls.{literal_grounds}
 use Rattle.theory.proofs.TableClauses.{literals-step, literals_end}
 use Rattle.refusal.specs.Refusal.{ground_number}
 use Rattle.table_rules.proofs.Laws.{absent, outside, inside, no_literal}

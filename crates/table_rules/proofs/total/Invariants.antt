@@ -1,10 +1,8 @@
 -- `table_rules::total` meets its contract: the sum so far and what is left add up to the whole. Assumes nothing.
 use mathlib.Core.Path.{◌≡◌}
 use Prim.Native.Nat.{◌+◌, ◌-◌, ◌*◌, ◌≤◌}
-use native.Mathlib.Omega.{arith}
 use lib.ListN.{length, drop}
 use Rattle.model.specs.Tables.{total}
-use Rattle.table_rules.proofs.Laws.{total-step, total-end}
 use Rattle.table_rules.proofs.total.Given as goal
 
 abbrev pub invariant-loop-i : goal.invariant-loop-i
