@@ -15,7 +15,7 @@ use Rattle.judge.proofs.judge.Goals as goal
 
 pub returns-then-g-eq-MOST_TESTED : goal.returns-then-g-eq-MOST_TESTED
 returns-then-g-eq-MOST_TESTED c = record {
-  answer = λ q prices tb t full. judge-most t _ c.if-g-eq-MOST_TESTED.true;
+  answer = λ q prices tb t full. judge-most t c.args.queue.now c.if-g-eq-MOST_TESTED.true;
   long = c.requires.0.planned;
 }
 
@@ -31,7 +31,7 @@ list-requires c =
 pub returns-in-Spent : goal.returns-in-Spent
 returns-in-Spent c =
     record {
-      answer = λ q prices tb t full. judge-spent t c.if-g-eq-MOST_TESTED.false _ (was_spent _ _ _ _ _ (as_ended ((c.test_shown-test.ensures.answer q.plant prices tb t.parent (c.values.ensures c.args.weighed q.plant t.parent t.is) t.is.valid)).0) c.in-Spent.is).0;
+      answer = λ q prices tb t full. judge-spent t c.if-g-eq-MOST_TESTED.false c.args.queue.now (was_spent _ _ _ _ _ (as_ended ((c.test_shown-test.ensures.answer q.plant prices tb t.parent (c.values.ensures c.args.weighed q.plant t.parent t.is) t.is.valid)).0) c.in-Spent.is).0;
       long = c.test_shown-test.ensures.long;
     }
 

@@ -25,7 +25,7 @@ counted-requires-in-Conflict c = c.requires.1.tested-less
 pub returns-in-Spent : goal.returns-in-Spent
 returns-in-Spent c =
     record {
-      answer = λ q prices codes values tb t. rw c.counted-in-Spent.ensures (learn-spent t _ c.if-store-g.false _ ((c.reduce.ensures.answer q.plant prices tb t.parent (c.values.ensures c.args.weighed q.plant t.parent t.is) t.is.valid)) _ c.in-Spent.is);
+      answer = λ q prices codes values tb t. rw c.counted-in-Spent.ensures (learn-spent t _ c.if-store-g.false _ ((c.reduce.ensures.answer q.plant prices tb t.parent (c.values.ensures c.args.weighed q.plant t.parent t.is) t.is.valid)) c.args.queue.now c.in-Spent.is);
       long = c.reduce.ensures.long;
     }
 

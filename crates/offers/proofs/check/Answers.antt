@@ -33,11 +33,11 @@ returns-in-Consistent c =
     let e = c.entry_at-e.ensures in record {
       few = omega arith;
       one = λ p costs t n found h l long kept.
-          check_consistent t c.args.limit n c.args.i _ found c.args.used c.args.m _ _ h l e.0 e.1 long kept c.requires.2 ((sym c.well_formed.ensures ∙ c.if-not-well_formed.false)) (was_consistent _ _ _ _ _ (as_ended ((c.tested.ensures.answer p costs t _ ((let e = c.entry_at-e.ensures in
+          check_consistent t c.args.limit n c.args.i _ found c.args.used c.args.m _ _ h l e.0 e.1 long kept c.requires.2 ((sym c.well_formed-2.ensures ∙ c.if-not-well_formed.false)) (was_consistent _ _ _ _ _ (as_ended ((c.tested.ensures.answer p costs t _ ((let e = c.entry_at-e.ensures in
           let word = c.slice_known-1.given in
-          offer_held t _ _ (sym c.well_formed.ensures ∙ c.if-not-well_formed.false) (omega (arith, e.0, word (2 * c.args.i))) (omega (arith, e.1, word (2 * c.args.i + 1))))).words ((let e = c.entry_at-e.ensures in
+          offer_held t _ _ (sym c.well_formed-2.ensures ∙ c.if-not-well_formed.false) (omega (arith, e.0, word (2 * c.args.i))) (omega (arith, e.1, word (2 * c.args.i + 1))))).words ((let e = c.entry_at-e.ensures in
           let word = c.slice_known-1.given in
-          offer_held t _ _ (sym c.well_formed.ensures ∙ c.if-not-well_formed.false) (omega (arith, e.0, word (2 * c.args.i))) (omega (arith, e.1, word (2 * c.args.i + 1))))).valid))) c.in-Consistent.is);
+          offer_held t _ _ (sym c.well_formed-2.ensures ∙ c.if-not-well_formed.false) (omega (arith, e.0, word (2 * c.args.i))) (omega (arith, e.1, word (2 * c.args.i + 1))))).valid))) c.in-Consistent.is);
       long = c.tested.ensures.long;
     }
 
@@ -46,11 +46,11 @@ returns-in-Spent c =
     let e = c.entry_at-e.ensures in record {
       few = omega arith;
       one = λ p costs t n found h l long kept.
-          check_spent t c.args.limit n c.args.i _ found c.args.used c.args.m _ _ h l e.0 e.1 long kept c.requires.2 ((sym c.well_formed.ensures ∙ c.if-not-well_formed.false)) (was_spent _ _ _ _ _ (as_ended ((c.tested.ensures.answer p costs t _ ((let e = c.entry_at-e.ensures in
+          check_spent t c.args.limit n c.args.i _ found c.args.used c.args.m _ _ h l e.0 e.1 long kept c.requires.2 ((sym c.well_formed-2.ensures ∙ c.if-not-well_formed.false)) (was_spent _ _ _ _ _ (as_ended ((c.tested.ensures.answer p costs t _ ((let e = c.entry_at-e.ensures in
           let word = c.slice_known-1.given in
-          offer_held t _ _ (sym c.well_formed.ensures ∙ c.if-not-well_formed.false) (omega (arith, e.0, word (2 * c.args.i))) (omega (arith, e.1, word (2 * c.args.i + 1))))).words ((let e = c.entry_at-e.ensures in
+          offer_held t _ _ (sym c.well_formed-2.ensures ∙ c.if-not-well_formed.false) (omega (arith, e.0, word (2 * c.args.i))) (omega (arith, e.1, word (2 * c.args.i + 1))))).words ((let e = c.entry_at-e.ensures in
           let word = c.slice_known-1.given in
-          offer_held t _ _ (sym c.well_formed.ensures ∙ c.if-not-well_formed.false) (omega (arith, e.0, word (2 * c.args.i))) (omega (arith, e.1, word (2 * c.args.i + 1))))).valid))) c.in-Spent.is).0;
+          offer_held t _ _ (sym c.well_formed-2.ensures ∙ c.if-not-well_formed.false) (omega (arith, e.0, word (2 * c.args.i))) (omega (arith, e.1, word (2 * c.args.i + 1))))).valid))) c.in-Spent.is).0;
       long = c.tested.ensures.long;
     }
 
@@ -61,14 +61,14 @@ returns-in-Inconsistent c =
       few = g.few;
       one = λ p costs t n found h l long kept.
           let whole = assignment_length _ _ _ kept.narrow in
-          check_inconsistent t c.args.limit n c.args.i _ found c.args.used c.args.m _ _ h l e.0 e.1 long kept c.requires.2 ((sym c.well_formed.ensures ∙ c.if-not-well_formed.false)) _ whole
+          check_inconsistent t c.args.limit n c.args.i _ found c.args.used c.args.m _ _ h l e.0 e.1 long kept c.requires.2 ((sym c.well_formed-2.ensures ∙ c.if-not-well_formed.false)) _ whole
           (was_inconsistent _ _ _ _ _ (as_ended ((c.tested.ensures.answer p costs t _ ((let e = c.entry_at-e.ensures in
           let word = c.slice_known-1.given in
-          offer_held t _ _ (sym c.well_formed.ensures ∙ c.if-not-well_formed.false) (omega (arith, e.0, word (2 * c.args.i))) (omega (arith, e.1, word (2 * c.args.i + 1))))).words ((let e = c.entry_at-e.ensures in
+          offer_held t _ _ (sym c.well_formed-2.ensures ∙ c.if-not-well_formed.false) (omega (arith, e.0, word (2 * c.args.i))) (omega (arith, e.1, word (2 * c.args.i + 1))))).words ((let e = c.entry_at-e.ensures in
           let word = c.slice_known-1.given in
-          offer_held t _ _ (sym c.well_formed.ensures ∙ c.if-not-well_formed.false) (omega (arith, e.0, word (2 * c.args.i))) (omega (arith, e.1, word (2 * c.args.i + 1))))).valid))) c.in-Inconsistent.is).0
+          offer_held t _ _ (sym c.well_formed-2.ensures ∙ c.if-not-well_formed.false) (omega (arith, e.0, word (2 * c.args.i))) (omega (arith, e.1, word (2 * c.args.i + 1))))).valid))) c.in-Inconsistent.is).0
           (λ apart. g.kept _ _ _ kept apart ((let e = c.entry_at-e.ensures in
           let word = c.slice_known-1.given in
-          offer_held t _ _ (sym c.well_formed.ensures ∙ c.if-not-well_formed.false) (omega (arith, e.0, word (2 * c.args.i))) (omega (arith, e.1, word (2 * c.args.i + 1))))).words whole) g.behind;
+          offer_held t _ _ (sym c.well_formed-2.ensures ∙ c.if-not-well_formed.false) (omega (arith, e.0, word (2 * c.args.i))) (omega (arith, e.1, word (2 * c.args.i + 1))))).words whole) g.behind;
       long = c.tested.ensures.long;
     }
