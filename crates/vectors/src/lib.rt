@@ -1,6 +1,7 @@
 // What the programs that replay the outside program's vectors share: the checksum, and reading the numbers and blocks of a
 // vector stream from standard input. No function has a `requires`, and none says what was read.
 #![tactic(auto)]
+
 mod checksum;
 mod input;
 
