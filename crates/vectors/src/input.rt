@@ -1,6 +1,7 @@
 // Numbers, high byte first, and blocks from a reader. Past its end there are zeros, and blocks are short.
-ghost use Rattle.std.specs.Prelude.{◌≡◌, ◌<◌, ◌≤◌, IfOk};
+ghost use Rattle.std.specs.Prelude.{◌≡◌, ◌<◌, ◌≤◌, IfOk, length, min, take};
 ghost use Rattle.std.specs.Io.{ReadsAtMost};
+ghost use Rattle.std.specs.Io.KnownBytes.{Consumes, IsAtEnd};
 ghost use Rattle.vectors.specs.Bytes.{over, shift};
 
 use std::io;
@@ -19,17 +20,19 @@ fn number(bytes: &[u8]) -> u64
 
 // The lesser of two numbers.
 fn least(a: usize, b: usize) -> usize
-    ensures { (result ≤ a) × (result ≤ b) }
+    ensures { result ≡ min a b }
 {
     if a < b { a } else { b }
 }
 
 // Reads until buf is full or the input ends, and answers how many bytes it put at the front of buf.
 pub fn read_full<R: Read>(input: &mut R, buf: &mut [u8]) -> io::Result<usize>
-    ensures { ReadsAtMost result buf.new }
+    ensures bound { ReadsAtMost result buf.new }
+    ensures bytes { IfOk result (λ n. Consumes (R.remaining input.old) (R.remaining input.new) (take n buf.new)) }
+    ensures end { IfOk result (λ n. n < length buf.new → IsAtEnd (R.remaining input.new)) }
 {
     let mut done = 0;
-    for _ in 0..buf.len() {
+    for _turn in 0..buf.len() {
         if done >= buf.len() {
             break;
         }
@@ -74,7 +77,10 @@ pub fn read_u64<R: Read>(input: &mut R) -> io::Result<u64> {
 
 // Reads n bytes to the front of buf, or as many as it or the input has, and answers how many those are.
 pub fn read_block<R: Read>(input: &mut R, buf: &mut [u8], n: usize) -> io::Result<usize>
-    ensures { ReadsAtMost result buf.new }
+    ensures bound { ReadsAtMost result buf.new }
+    ensures asked { IfOk result (λ k. k ≤ n) }
+    ensures bytes { IfOk result (λ k. Consumes (R.remaining input.old) (R.remaining input.new) (take k buf.new)) }
+    ensures end { IfOk result (λ k. k < n → k < length buf.new → IsAtEnd (R.remaining input.new)) }
 {
     let most = least(n, buf.len());
     read_full(input, &mut buf[..most])
