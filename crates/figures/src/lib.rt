@@ -3,6 +3,7 @@
 // part exchanged, and the figures of listed codes are filled into a list. A word holds any product, of eight weights below
 // 256 at most; nothing relies on an entry being a weight but what is said of products.
 #![tactic(auto)]
+
 ghost use Rattle.std.specs.Prelude.{◌≡◌, ℕ, ◌+◌, ◌*◌, ◌^◌, ◌<◌, ◌≤◌, true, List, map, length, take, slice_index};
 ghost use Rattle.model.specs.Lists.{filled};
 ghost use Rattle.model.specs.Digits.{digits};

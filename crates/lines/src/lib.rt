@@ -1,6 +1,7 @@
 // The lines that the program `leading` prints, put into a lent buffer at a place: a line for each state listed, the counts
 // of a run, and the line of a refusal.
 #![tactic(auto)]
+
 ghost use Rattle.std.specs.Prelude.{◌+◌, ◌≤◌, ◌++◌, length};
 ghost use Rattle.model.specs.Text.{decimal, refusal_line};
 ghost use Rattle.theory.specs.Puts.{Puts};

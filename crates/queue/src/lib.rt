@@ -4,6 +4,7 @@
 // what the order goes by, figure, departures and code of the node's best state, then the mask. So the queue compares two
 // words, for either edition; only how an entry is packed (`entry_of`, `code_in`, `figure_in`) knows which it is.
 #![tactic(auto)]
+
 ghost use Rattle.std.specs.Prelude.{◌≡◌, List, [], ◌∷◌, ℕ, ◌+◌, ◌-◌, ◌*◌, ◌≤◌, ◌<◌, length, get_or, set, replicate};
 ghost use Rattle.model.specs.Lists.{All};
 ghost use Rattle.model.specs.Assignment.{Assignment, Valid, mask_of, code};

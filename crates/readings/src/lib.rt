@@ -2,6 +2,7 @@
 // long the tables are that hold the largest plant. The definitions have the same names, in `specs/Lengths` and in the
 // theory's `specs/Longest`: `head_bits` is HEAD_BITS.
 #![tactic(auto)]
+
 use limits::{CLAUSES, DECISIONS, LITERALS, VALUES, VARIABLES};
 
 // State variables of a plant.

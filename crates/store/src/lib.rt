@@ -4,6 +4,7 @@
 // until it ends, and then they are narrowed again. `Keeps` says that the first m entries are such words of a list of
 // conflicts over d variables; for every such list each answer is an equation with the model.
 #![tactic(auto)]
+
 ghost use Rattle.std.specs.Prelude.{◌≡◌, false, List, [], ◌∷◌, ◌++◌, ℕ, ◌+◌, ◌*◌, ◌≤◌, ◌<◌, length, get_or, take, drop, replicate};
 ghost use Rattle.model.specs.Lists.{filled, any_of};
 ghost use Rattle.model.specs.Assignment.{Assignment};

@@ -2,6 +2,7 @@
 // Both searches (`pair_search` for at most 128 clauses, `row_search` for more) go by the definitions and laws that stand
 // here: what their sets of clauses are, where they stand at a variable, and what a turn of the loop over its values means.
 #![tactic(auto)]
+
 ghost use Rattle.std.specs.Prelude.{◌≡◌, ◌+◌, ◌-◌, ◌<◌, ◌≤◌};
 ghost use Rattle.trials.specs.Answers.{trials_below, answer_in, told, trials_in};
 

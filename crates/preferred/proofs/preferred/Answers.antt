@@ -17,7 +17,7 @@ loop-v-init c = (omega arith, no_values)
 pub best-x-requires : goal.best-x-requires
 best-x-requires c =
     let z = size-at c.args.sizes.now c.args.costs.now c.args.d c.requires c.loop-v.v c.loop-v-test.true in
-    (omega (arith, c.wide.ensures), omega (arith, c.wide.ensures, c.best-arg-1.given.2))
+    (omega (arith, c.wide.ensures), omega (arith, c.wide.ensures, c.best-arg-1.given.1))
 
 pub overflow_add-word : goal.overflow_add-word
 overflow_add-word c =

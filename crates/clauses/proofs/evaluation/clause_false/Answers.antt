@@ -28,7 +28,7 @@ returns-then-not-literal_fails c =
     let h = c.loop-i in
     let lt = c.loop-i-test.true in
     let e = rw c.wide-x.ensures at c.literal_fails.ensures in
-    sym (h.invariant.2 ∙ false-step _ h.i lt s.vals.now _ (below_step _ h.i lt _ h.invariant.1).0 e ∙ rw (not-true c.literal_fails.result c.if-not-literal_fails.true))
+    sym (h.invariant.2 ∙ false-step _ h.i lt s.vals.now _ (below_step _ h.i lt _ h.invariant.1).0 e ∙ rw c.if-not-literal_fails.true)
 
 pub loop-i-preserved : goal.loop-i-preserved
 loop-i-preserved c =
@@ -37,7 +37,7 @@ loop-i-preserved c =
     let lt = c.loop-i-test.true in
     let e = rw c.wide-x.ensures at c.literal_fails.ensures in
     let b = below_step _ h.i lt _ h.invariant.1 in
-    (omega arith, b.1, h.invariant.2 ∙ false-step _ h.i lt s.vals.now _ b.0 e ∙ rw (not-false c.literal_fails.result c.if-not-literal_fails.false))
+    (omega arith, b.1, h.invariant.2 ∙ false-step _ h.i lt s.vals.now _ b.0 e ∙ rw c.if-not-literal_fails.false)
 
 pub returns : goal.returns
 returns c = sym (c.loop-i.invariant.2 ∙ false-end _ c.loop-i.i c.loop-i-test.false _)

@@ -16,7 +16,7 @@ use Rattle.clauses.proofs.evaluation.clause_false.Given as goal
 abbrev pub invariant-loop-i : goal.invariant-loop-i
 invariant-loop-i l =
     (l.i ≤ length l.part)
-    × All (λ l. l.variable < length l.vals) (literals (drop l.i l.part))
+    × All (λ w. w.variable < length l.vals) (literals (drop l.i l.part))
     × (clause_false (map given l.vals) (literals l.part) ≡ clause_false (map given l.vals) (literals (drop l.i l.part)))
 
 abbrev pub decreases-loop-i : goal.decreases-loop-i

@@ -11,7 +11,7 @@ returns-then-due-set c =
     let s = c.args in
     record {
       all = λ e. absurd (let z : ◌≡◌ {A = ℕ} 0 1 = cc in omega arith);
-      only = λ f. absurd (c.if-due-set.true (first-inside s.table.now s.t3 s.other.now s.row s.at f (c.shared_slice_known-1.given _).fits));
+      only = λ f. absurd (c.if-due-set.true (first-inside s.table.now s.set s.other.now s.row s.at f (c.shared_slice_known-1.given _).fits));
     }
 
 pub returns : goal.returns

@@ -8,6 +8,7 @@ use Rattle.clauses.proofs.Marks.{Marking, marking_first, marking_step, marking_s
 use native.Mathlib.Omega.{arith}
 use borrow.Author.Rules.{rules}
 use Rattle.clauses.proofs.tables.mark.Goals as goal
+use Rattle.clauses.proofs.tables.mark.Goals.{then-holds, else-holds}
 
 pub overflow_add-var : goal.overflow_add-var
 overflow_add-var c = omega (arith, c.wide.ensures)
@@ -16,7 +17,7 @@ pub add-requires : goal.add-requires
 add-requires c = omega (arith, c.wide.ensures)
 
 pub shape_of-sat-then-sign-eq0 : goal.shape_of-sat-then-sign-eq0
-shape_of-sat-then-sign-eq0 c = c.add.auto.0
+shape_of-sat-then-sign-eq0 c = c.add.auto.table
 
 pub returns-then-value-lt-UNASSIGNED : goal.returns-then-value-lt-UNASSIGNED
 returns-then-value-lt-UNASSIGNED c =
@@ -38,19 +39,19 @@ pub loop-x-preserved : goal.loop-x-preserved
 loop-x-preserved c =
     let h = c.loop-x in
     let s = c.args in
-    ⊎_elim
-    (λ k. (
-      omega arith,
-      ap length k.6 ∙ k.3.kept.0 ∙ h.invariant.1,
-      rw k.6 (marking_step _ _ _ _ _ _ _ _ h.invariant.2 k.3.ensures
-          (λ r. rw k.2.ensures (rows_hold s.var s.sign s.value h.x r (omega arith) (sym c.holds.ensures ∙ k.0.taken)))),
-    ))
-    (λ k. (
-      omega arith,
-      ap length k.1 ∙ h.invariant.1,
-      rw k.1 (marking_skip _ _ _ _ _ _ h.invariant.2 (λ r. rows-fail s.var s.sign s.value h.x r (sym c.holds.ensures ∙ k.0.left))),
-    ))
-    c.if-holds.branch
+    elim c.if-holds.branch [
+      | then-holds w ↦ (
+        omega arith,
+        ap length w.sat-is ∙ w.add-then-holds.auto.table ∙ h.invariant.1,
+        rw w.sat-is (marking_step _ _ _ _ _ _ _ _ h.invariant.2 w.add-then-holds.ensures
+            (λ r. rw w.wide-then-holds.ensures (rows_hold s.var s.sign s.value h.x r (omega arith) (sym c.holds.ensures ∙ w.if-holds.true)))),
+      )
+      | else-holds w ↦ (
+        omega arith,
+        ap length w.sat-is ∙ h.invariant.1,
+        rw w.sat-is (marking_skip _ _ _ _ _ _ h.invariant.2 (λ r. rows-fail s.var s.sign s.value h.x r (sym c.holds.ensures ∙ w.if-holds.false))),
+      )
+    ]
 
 pub shape_of-sat : goal.shape_of-sat
 shape_of-sat c = c.loop-x.invariant.1

@@ -36,8 +36,8 @@ loop-i-preserved c =
     let m = c.mark in
     let n = c.add in (
       omega arith,
-      m.auto.0 ∙ h.invariant.1,
-      n.auto.0 ∙ h.invariant.2,
+      m.auto.sat ∙ h.invariant.1,
+      n.auto.table ∙ h.invariant.2,
       (below_step _ h.i lt _ h.invariant.3).1,
       marking_step _ _ _ _ _ _ _ _ h.invariant.4 m.ensures (λ r. rw x (rows_step _ h.i lt r)),
       marking_step _ _ _ _ _ _ _ _ h.invariant.5 n.ensures (λ r. rw x (mentions-step _ h.i lt r)),

@@ -36,7 +36,7 @@ loop-i-preserved c =
     let e : h.at + 3 * x.result - h.at ≡ 3 * x.result = omega arith in
     rw x.ensures
     (filling_next _ _ _ _ _ _ _ _ h.invariant c.loop-i-test.true
-    _ _ m.auto.0 m.auto.1.0 (rw (e, x.ensures) at m.ensures))
+    _ _ m.auto.sat m.auto.uses (rw (e, x.ensures) at m.ensures))
 
 pub shape_of-sat : goal.shape_of-sat
 shape_of-sat c = c.loop-i.invariant.sat_same

@@ -1,0 +1,14 @@
+-- `queue::clear` meets its contract. The invariant: the words before place i are zeros. The measure is how many are left. Assumes nothing.
+use mathlib.Core.Path.{◌≡◌, refl, sym, ap, ◌∙◌}
+use Prim.Native.Nat.{ℕ, ◌-◌, ◌≤◌}
+use native.Mathlib.Omega.{arith}
+use native.Mathlib.Numerals.{add-one}
+use lib.ListN.{length, take, replicate, length-set, replicate-append-replicate}
+use lib.Seq.{take_all, take-suc-set}
+use Rattle.queue.proofs.clear.Given as goal
+
+abbrev pub invariant-loop-i : goal.invariant-loop-i
+invariant-loop-i l = (length l.queue ≡ length l.initial.queue) × (l.i ≤ length l.queue) × (take l.i l.queue ≡ replicate l.i 0)
+
+abbrev pub decreases-loop-i : goal.decreases-loop-i
+decreases-loop-i l = length l.queue - l.i

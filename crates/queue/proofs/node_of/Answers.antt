@@ -1,0 +1,10 @@
+-- `queue::node_of` meets its contract: a node's entry has its mask and, masked, its values. Assumes nothing.
+use mathlib.Core.Path.{◌≡◌, ap}
+use borrow.Author.Rules.{rules}
+use Rattle.queue.specs.Order.{Item, entry_of}
+use Rattle.queue.proofs.EntryLaws.{node-words}
+use Rattle.queue.proofs.node_of.Goals as goal
+
+pub returns : goal.returns
+returns c ss o n s w v e =
+    rw (c.widened.ensures, c.code_in.ensures, c.mask_in-mask.ensures, w) (rw (← e) at (node-words ss o n s v))

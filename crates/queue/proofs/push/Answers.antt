@@ -1,0 +1,50 @@
+-- `queue::push` meets its contract. The invariant: with (a, b) at the open place i, the queue is in order but for i, and is a permutation of the queue at the start with (a, b) in front. The measure is i. Assumes nothing.
+use mathlib.Core.Logic.{⊎_elim}
+use mathlib.Core.Path.{◌≡◌, refl, sym, ◌∙◌}
+use Prim.Native.Nat.{◌+◌, ◌-◌, ◌/◌, ◌≤◌}
+use native.Mathlib.Omega.{arith}
+use lib.ListN.{length}
+use borrow.Author.Tests.{not-true, not-false}
+use Rattle.queue.specs.Order.{Item}
+use Rattle.queue.specs.Entries.{pairs, entries}
+use Rattle.queue.specs.Queue.{Ready}
+use Rattle.queue.proofs.OrderLaws.{due-before}
+use Rattle.queue.proofs.PairLaws.{room}
+use Rattle.queue.proofs.HeapLaws.{due-by}
+use Rattle.queue.proofs.SiftLaws.{Rising, rise_start, rise_step, rise_top, rise_stop}
+use Rattle.queue.proofs.HoldsLaws.{holds-push}
+use Rattle.queue.proofs.push.Goals as goal
+
+pub loop-i-init : goal.loop-i-init
+unfolding Ready
+loop-i-init c =
+    (refl, omega arith, rise_start c.args.n (c.args.a, c.args.b) (pairs c.args.queue.now) (omega (arith, room c.args.queue.now (c.args.n + 1) (omega arith))))
+
+pub comes_before-requires : goal.comes_before-requires
+comes_before-requires c = tt
+
+pub loop-i-preserved : goal.loop-i-preserved
+loop-i-preserved c =
+    let l = c.loop-i in
+    let e = c.entry_at-e in
+    let t = c.comes_before in
+    let v : Item = (c.args.a, c.args.b) in
+    let due = due-by refl e.ensures (due-before v (e.result.a, e.result.b) (sym t.ensures ∙ c.if-not-comes_before.false)) in (
+      c.put.auto.queue ∙ l.invariant.0,
+      omega arith,
+      λ h. rw (c.put.ensures, ← e.ensures) (rise_step (l.invariant.2 h) ((l.i - 1) / 2) (omega arith) due),
+    )
+
+pub shape_of-queue : goal.shape_of-queue
+shape_of-queue c = c.put-2.auto.queue ∙ c.loop-i.invariant.0
+
+pub returns : goal.returns
+unfolding Ready entries
+returns c o nodes node h is =
+    let l = c.loop-i in
+    holds-push o _ _ _ nodes node _ h is
+    (rw c.put-2.ensures (⊎_elim
+    (λ w. rise_top (l.invariant.2 h.ready) w.left)
+    (λ w. rise_stop (l.invariant.2 h.ready) ((l.i - 1) / 2) (omega arith) (due-by w.2.ensures refl (sym w.3.ensures ∙ not-true w.3.result w.4.taken)))
+    c.loop-i-test.branch))
+    (λ w. rw c.put-2.ensures ((l.invariant.2 h.ready).same w))

@@ -1,0 +1,7 @@
+-- `queue::put` meets its contract: its two writes are the write of an entry. Assumes nothing.
+use Rattle.queue.proofs.PairLaws.{write-pair}
+use borrow.Author.Rules.{rules}
+use Rattle.queue.proofs.put.Goals as goal
+
+pub returns : goal.returns
+returns c = write-pair c.args.queue.now c.args.i c.args.a c.args.b c.requires

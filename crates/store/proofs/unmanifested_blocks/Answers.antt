@@ -1,0 +1,34 @@
+-- `store::unmanifested_blocks` meets its contract. The loop's invariant: the node contains none of the conflicts before this place. Assumes nothing.
+use Prim.Native.Nat.{ℕ, ◌-◌, ◌≤◌}
+use mathlib.Core.Path.{◌≡◌, refl, sym, ap₂, ◌∙◌}
+use mathlib.Core.Bool.{false, ◌||◌}
+use mathlib.Core.List.{List}
+use native.Mathlib.Omega.{arith}
+use lib.ListN.{length, take}
+use Rattle.model.specs.Lists.{any_of}
+use Rattle.model.specs.Assignment.{Assignment}
+use Rattle.model.specs.Conflict.{manifests}
+use Rattle.theory.specs.Words.{Wide}
+use Rattle.store.specs.Store.{Keeps}
+use Rattle.store.proofs.Scan.{none-eight}
+use Rattle.store.proofs.unmanifested_blocks.Goals as goal
+
+pub loop-at-init : goal.loop-at-init
+loop-at-init c = (omega arith, λ d conflicts n k w l. refl)
+
+pub returns-then-four_manifest : goal.returns-then-four_manifest
+returns-then-four_manifest c = c.loop-at.invariant
+
+pub loop-at-preserved : goal.loop-at-preserved
+loop-at-preserved c =
+    let h = c.loop-at in (
+      omega arith,
+      λ d conflicts n k w l.
+          let m = c.args.m in
+          let first = c.four_manifest.ensures d m conflicts n k (omega arith) w l in
+          let second = c.four_manifest-in-loop-at.ensures d m conflicts n k (omega arith) w l in
+          none-eight (manifests n) conflicts h.at (h.invariant.1 d conflicts n k w l) (sym (ap₂ ◌||◌ first second) ∙ c.if-four_manifest.false),
+    )
+
+pub returns : goal.returns
+returns c = c.loop-at.invariant
