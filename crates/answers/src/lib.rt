@@ -1,5 +1,6 @@
 // How the programs print an answer's kind: a refusal by its number, an ending by its name.
 #![tactic(auto)]
+
 use judge::Ending;
 use printing::{print_number, print_text};
 use refusal::Refusal;

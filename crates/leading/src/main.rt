@@ -1,6 +1,7 @@
 // Reads a plant sheet from standard input and prints the sixteen leading states of its plant with their costs, then how
 // the run ended; or the number of the refusal.
 #![tactic(auto)]
+
 use answer_text::{TEXT_BYTES, leading_text};
 use std::io;
 use vectors::read_full;

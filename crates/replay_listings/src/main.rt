@@ -2,6 +2,7 @@
 // either edition, in buffers of the lengths and words that the case says, and prints its answer and a checksum of every lent word. What it
 // must print was written by the outside program.
 #![tactic(auto)]
+
 ghost use Rattle.std.specs.Prelude.{◌≡◌, ◌≤◌, length};
 ghost use Rattle.vectors.specs.Bytes.{over, mix, mix64};
 
@@ -83,7 +84,7 @@ fn answer<W: Write>(
     store: &mut [u64],
     held: usize,
     limit: u32,
-) {
+) -> io::Result<()> {
     let listed = list(sheet, k, codes, costs, values, queue, store, held, limit);
     print_answer(out, listed)?;
     let coded = mixed_all_u64(CHECKSUM_START, codes);
@@ -103,7 +104,7 @@ fn answer_weights<W: Write>(
     store: &mut [u64],
     held: usize,
     limit: u32,
-) {
+) -> io::Result<()> {
     let listed = list_weights(sheet, k, codes, products, values, queue, store, held, limit);
     print_answer(out, listed)?;
     let coded = mixed_all_u64(CHECKSUM_START, codes);

@@ -2,6 +2,7 @@
 // buffer of the length and the byte that the case says, reads a written sheet into lent tables, and prints both answers with
 // checksums of every lent byte. What it must print was written by the outside program.
 #![tactic(auto)]
+
 ghost use Rattle.std.specs.Prelude.{◌≡◌, ◌≤◌, IfOk, length};
 ghost use Rattle.vectors.specs.Bytes.{checksum_start, over, mix, mix16};
 

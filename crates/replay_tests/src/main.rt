@@ -1,6 +1,7 @@
 // Reads tests and reductions from standard input, as outside/vectors.py writes them, makes each call and prints its answer,
 // and of a test a checksum of the bytes that it shows. What it must print was written by the outside program.
 #![tactic(auto)]
+
 use answers::print_refusal;
 use conflict_call::{ReduceAnswer, TestAnswer};
 use printing::{print_hex8, print_hex16, print_number, print_text};
@@ -30,7 +31,13 @@ fn test<W: Write>(out: &mut W, sheet: &[u8], mask: u64, values: u64, limit: u32)
 }
 
 // Reduces and prints the answer.
-fn reduce<W: Write>(out: &mut W, sheet: &[u8], mask: u64, values: u64, limit: u32) -> io::Result<()> {
+fn reduce<W: Write>(
+    out: &mut W,
+    sheet: &[u8],
+    mask: u64,
+    values: u64,
+    limit: u32,
+) -> io::Result<()> {
     match conflict_call::reduce_call(sheet, mask, values, limit) {
         ReduceAnswer::Refused(r) => print_refusal(out, r, b'\n'),
         ReduceAnswer::None(t) => tried(out, b"none ", t, b'\n'),
