@@ -3,6 +3,7 @@
 // child's numbers are made from its parent's: nothing is summed or searched anew. `Step` says what a node and the lent
 // slices stand for, `Puts` what became of the queue; of a queue that was found full nothing is said.
 #![tactic(auto)]
+
 ghost use Rattle.std.specs.Prelude.{◌≡◌, Bool, [], ◌∷◌, ℕ, ◌+◌, ◌*◌, ◌≤◌, ◌<◌, length, get_or, set, take};
 ghost use Rattle.std.proofs.Math.Option.{none, some};
 ghost use Rattle.model.specs.Lists.{All, values_from};
@@ -22,7 +23,7 @@ use limits::{UNASSIGNED, VALUES, wide};
 const NO_VALUE: usize = UNASSIGNED as usize;
 
 // A node: its mask, the code of its best state and the figure of that state.
-#[derive(Drop)]
+#[derive(Clone, Copy)]
 pub struct Node {
     pub mask: u64,
     pub code: u64,

@@ -4,6 +4,7 @@
 // variable: where a search finds no values from the variable on, by which clauses it went, which of these were satisfied, and
 // how many trials it took. Where it comes to the variable again with the same ones satisfied, it would find none by as many.
 #![tactic(auto)]
+
 ghost use Rattle.std.specs.Prelude.{◌≡◌, ◌+◌, ◌*◌, ◌<◌, ◌≤◌, length};
 ghost use Rattle.std.specs.Int.Bits.{bit_and};
 ghost use Rattle.clauses.specs.Numbers.{variables, pair_clauses};

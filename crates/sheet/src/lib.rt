@@ -4,6 +4,7 @@
 // decision variable, of costs or of weights; `counts` the literal count of each clause; `lits` the literals in reading order, three bytes each.
 // After a refusal, and beyond what was read, the tables hold anything.
 #![tactic(auto)]
+
 ghost use Rattle.std.specs.Prelude.{◌≡◌, ◌+◌, ◌≤◌, ◌<◌, ◌^◌, length, get_or, eqb};
 ghost use Rattle.model.specs.Sheet.{edition_of, read_end, read_body, read_sheet, Plant};
 ghost use Rattle.theory.specs.Longest.{head_bits};

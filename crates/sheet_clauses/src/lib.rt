@@ -1,5 +1,6 @@
 // The clauses of a plant sheet: from the sheet's bits to the tables of literal counts and literals.
 #![tactic(auto)]
+
 ghost use Rattle.std.specs.Prelude.{◌≡◌, ◌+◌, ◌*◌, ◌≤◌, ◌<◌, ◌^◌, length, take};
 ghost use Rattle.model.specs.Sheet.{many, read_literal, read_clause};
 ghost use Rattle.model.specs.Tables.{literals, clauses as clausesIn, total};

@@ -1,5 +1,6 @@
 // The variables of a plant sheet: from the sheet's bits to the tables of sizes and costs, or of weights where the sheet is weighed.
 #![tactic(auto)]
+
 ghost use Rattle.std.specs.Prelude.{◌≡◌, map, ℕ, ◌+◌, ◌*◌, ◌≤◌, ◌<◌, ◌^◌, length, take, drop};
 ghost use Rattle.model.specs.Sheet.{edition_of, many, read_figure, read_decision, read_state, read_body};
 ghost use Rattle.theory.specs.Tables.{rows};

@@ -2,6 +2,7 @@
 // either may contain the other, and one pass finds which: the first entry that is related to the conflict settles it. In
 // step 7 only an entry can contain the conflict. The entries that contain it give way to it, the others close up.
 #![tactic(auto)]
+
 ghost use Rattle.std.specs.Prelude.{◌≡◌, true, false, not, List, [], ◌++◌, ℕ, ◌+◌, ◌*◌, ◌≤◌, ◌<◌, length, get_or, take, drop};
 ghost use Rattle.model.specs.Lists.{Pairs, keep, any_of};
 ghost use Rattle.model.specs.Assignment.{Assignment};

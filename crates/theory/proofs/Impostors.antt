@@ -13,7 +13,7 @@ use Rattle.model.specs.Consistency.{holds_at, literal_holds, clause_holds, all_h
 use Rattle.model.specs.Order.{Order, Entry, order_of, product}
 use Rattle.model.specs.Listing.{Ending, enough, all, most_tested}
 use Rattle.model.specs.Calls.{Buffers, Counts, state_bytes, run_list, state_values}
-use Rattle.model.specs.Edges.{small_plant, small-whole}
+use Rattle.model.proofs.Edges.{small_plant, small-whole}
 use Rattle.theory.specs.Run.{strikes}
 use Rattle.theory.specs.Demand3.{Demand3}
 use Rattle.theory.proofs.Agreement.{fits_length}

@@ -18,7 +18,7 @@ use Rattle.model.specs.Conflict.{Reduced, conflict, reduce}
 use Rattle.model.specs.Order.{Order, order_of}
 use Rattle.model.specs.Listing.{State, Ending, enough, all, full, Next, ended, more, Checked, checked, broken_off, check_offers, first_unresolved, resolving, branching, leave_off, listed_one, most_tested, put_children, learn, judge, expand, remove, step, run, start, enough_steps, listing}
 use Rattle.model.specs.Calls.{refused, answered, Buffers, Counts, ran, unfinished, Answer, Called, first_given, host_grounds, offers_of, called_of, run_of, listing_with, exported_of, export_with, export_call}
-use Rattle.model.specs.Examples.{Settings, lists, lent, call, whole, ran_with, plain, tail, small, both, three}
+use Rattle.model.proofs.Examples.{Settings, lists, lent, call, whole, ran_with, plain, tail, small, both, three}
 use Rattle.theory.specs.LastState.{former_remove, former_step, former_run, former_run_of, former_call, former_export, LeavesEmpty, CallLeavesEmpty, EndingChange, AnswerChange, CallChange, ExportChange}
 use Rattle.theory.proofs.Run.{differ}
 use Rattle.theory.proofs.Demand3.{none-given, queue-given, run_demand3}

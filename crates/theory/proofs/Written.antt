@@ -15,8 +15,8 @@ use Rattle.model.specs.Lists.{All, in_turn}
 use Rattle.model.specs.Digits.{number, digits}
 use Rattle.model.specs.Sheet.{Literal, Plant, sizes, Read, refused, got, bit_at, bits_at, then, many, field, Edition, edition1, edition2, decisions_allowed, read_figure, read_decision, read_state, read_literal, read_clause, read_filler, read_end, read_body, read_sheet}
 use Rattle.model.specs.Tables.{decision_written, state_written, literal_written, clause_written, body_written, plant_written, packed, sheet_of}
-use Rattle.model.specs.Examples.{tail, small}
-use Rattle.model.specs.Edges.{small_plant}
+use Rattle.model.proofs.Examples.{tail, small}
+use Rattle.model.proofs.Edges.{small_plant}
 use Rattle.theory.specs.Digits.{Below}
 use Rattle.theory.specs.Longest.{head_bits, decision_bits, state_bits, clause_bits, longest_sheet}
 use Rattle.theory.specs.Plant.{Sized, Present, Accepted}

@@ -1,6 +1,7 @@
 // The clauses of a plant sheet, written: from the tables of literal counts and literals to the sheet's bits. Each function
 // answers with the place after what it put; `Puts` says so, and that every other bit stays.
 #![tactic(auto)]
+
 ghost use Rattle.std.specs.Prelude.{◌+◌, ◌*◌, ◌/◌, ◌≤◌, ◌<◌, ◌^◌, ◌≡◌, length};
 ghost use Rattle.model.specs.Lists.{All, in_turn};
 ghost use Rattle.model.specs.Tables.{total, literals, clauses as clauses_of, literal_written, clause_written};

@@ -1,5 +1,6 @@
 // A whole plant sheet, written of tables that no rule refuses into a lent part that is as long as the sheet.
 #![tactic(auto)]
+
 ghost use Rattle.std.specs.Prelude.{◌≡◌, ◌++◌, ◌+◌, ◌-◌, ◌*◌, ◌/◌, ◌%◌, ◌≤◌, ◌<◌, ◌^◌, length, replicate};
 ghost use Rattle.model.specs.Digits.{digits};
 ghost use Rattle.model.specs.Sheet.{edition1};

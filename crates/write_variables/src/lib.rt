@@ -1,6 +1,7 @@
 // The variables of a plant sheet, written: from the tables of sizes and costs to the sheet's bits. Each function answers with
 // the place after what it put; `Puts` says so, and that every other bit stays.
 #![tactic(auto)]
+
 ghost use Rattle.std.specs.Prelude.{◌+◌, ◌*◌, ◌≤◌, ◌<◌, ◌^◌, ◌++◌, length, take, drop};
 ghost use Rattle.model.specs.Lists.{All, in_turn};
 ghost use Rattle.model.specs.Sheet.{edition1};

@@ -14,6 +14,7 @@ use Rattle.queue.proofs.HeapLaws.{due-by}
 use Rattle.queue.proofs.SiftLaws.{Rising, rise_start, rise_step, rise_top, rise_stop}
 use Rattle.queue.proofs.HoldsLaws.{holds-push}
 use Rattle.queue.proofs.push.Goals as goal
+use Rattle.queue.proofs.push.Goals.{else-loop-i-test, then-loop-i-test+then-not-comes_before}
 
 pub loop-i-init : goal.loop-i-init
 unfolding Ready
@@ -43,8 +44,8 @@ unfolding Ready entries
 returns c o nodes node h is =
     let l = c.loop-i in
     holds-push o _ _ _ nodes node _ h is
-    (rw c.put-2.ensures (⊎_elim
-    (λ w. rise_top (l.invariant.2 h.ready) w.left)
-    (λ w. rise_stop (l.invariant.2 h.ready) ((l.i - 1) / 2) (omega arith) (due-by w.2.ensures refl (sym w.3.ensures ∙ not-true w.3.result w.4.taken)))
-    c.loop-i-test.branch))
+    (rw c.put-2.ensures (elim c.loop-i-test.branch [
+      | else-loop-i-test w ↦ rise_top (l.invariant.2 h.ready) w.loop-i-test.false
+      | then-loop-i-test+then-not-comes_before w ↦ rise_stop (l.invariant.2 h.ready) ((l.i - 1) / 2) (omega arith) (due-by w.entry_at-e.ensures refl (sym w.comes_before.ensures ∙ w.if-not-comes_before.true))
+    ]))
     (λ w. rw c.put-2.ensures ((l.invariant.2 h.ready).same w))

@@ -14,6 +14,7 @@ use Rattle.queue.proofs.PairLaws.{room}
 use Rattle.queue.proofs.SieveLaws.{Answers, Sieving, sieve-start, sieve-keep, sieve-drop}
 use Rattle.queue.proofs.HoldsLaws.{spared, stays_spared, holds-sieve}
 use Rattle.queue.proofs.sieve.Goals as goal
+use Rattle.queue.proofs.sieve.Goals.{then-stays, else-stays}
 
 pub widened-wide-requires : goal.widened-wide-requires
 widened-wide-requires c = tt
@@ -33,26 +34,26 @@ loop-i-preserved c =
     let more : l.i < c.args.n = omega arith in
     let within : l.i < length old = omega (arith, room c.args.queue.now c.args.n c.requires) in
     let space : l.count < length (pairs l.queue) = omega (arith, room l.queue c.args.n (omega arith)) in
-    ⊎_elim
-    (λ w. (
-      ap length w.5 ∙ w.2.kept.0 ∙ l.invariant.0,
-      omega arith,
-      omega arith,
-      λ test answers.
-          let inv = l.invariant.3 test answers in
-          let same : (e.result.a, e.result.b) ≡ nth old l.i = sym e.ensures ∙ inv.rest l.i (omega arith) in
-          rw (w.5, w.6, w.2.ensures, same) (sieve-keep inv l.invariant.2 within space (sym (answers l.i more t.result (rw same at t.ensures)) ∙ w.0.taken)),
-    ))
-    (λ w. (
-      ap length w.1 ∙ l.invariant.0,
-      omega arith,
-      omega arith,
-      λ test answers.
-          let inv = l.invariant.3 test answers in
-          let same : (e.result.a, e.result.b) ≡ nth old l.i = sym e.ensures ∙ inv.rest l.i (omega arith) in
-          rw (w.1, w.2) (sieve-drop inv l.invariant.2 within (sym (answers l.i more t.result (rw same at t.ensures)) ∙ w.0.left)),
-    ))
-    c.if-stays.branch
+    elim c.if-stays.branch [
+      | then-stays w ↦ (
+        ap length w.queue-is ∙ w.put.auto.queue ∙ l.invariant.0,
+        omega arith,
+        omega arith,
+        λ test answers.
+            let inv = l.invariant.3 test answers in
+            let same : (e.result.a, e.result.b) ≡ nth old l.i = sym e.ensures ∙ inv.rest l.i (omega arith) in
+            rw (w.queue-is, w.count-is, w.put.ensures, same) (sieve-keep inv l.invariant.2 within space (sym (answers l.i more t.result (rw same at t.ensures)) ∙ w.if-stays.true)),
+      )
+      | else-stays w ↦ (
+        ap length w.queue-is ∙ l.invariant.0,
+        omega arith,
+        omega arith,
+        λ test answers.
+            let inv = l.invariant.3 test answers in
+            let same : (e.result.a, e.result.b) ≡ nth old l.i = sym e.ensures ∙ inv.rest l.i (omega arith) in
+            rw (w.queue-is, w.count-is) (sieve-drop inv l.invariant.2 within (sym (answers l.i more t.result (rw same at t.ensures)) ∙ w.if-stays.false)),
+      )
+    ]
 
 pub shape_of-queue : goal.shape_of-queue
 shape_of-queue c = c.rebuild.auto.queue ∙ c.loop-i.invariant.0

@@ -13,6 +13,7 @@ use Rattle.queue.proofs.PairLaws.{room}
 use Rattle.queue.proofs.HeapLaws.{due-by}
 use Rattle.queue.proofs.SiftLaws.{Sinking, sink_start, sink_step, sink_bottom, sink_stop}
 use Rattle.queue.proofs.sift_down.Goals as goal
+use Rattle.queue.proofs.sift_down.Goals.{else-loop-i-test, then-loop-i-test+then-not-comes_before}
 
 pub loop-i-init : goal.loop-i-init
 loop-i-init c =
@@ -39,9 +40,9 @@ pub returns : goal.returns
 returns c h =
     let l = c.loop-i in
     record {
-      heap = rw c.put-2.ensures (⊎_elim
-          (λ w. sink_bottom (l.invariant.2 h) w.left)
-          (λ w. sink_stop (l.invariant.2 h) w.2.ensures (due-by refl w.4.ensures (sym w.5.ensures ∙ not-true w.5.result w.6.taken)))
-          c.loop-i-test.branch);
+      heap = rw c.put-2.ensures (elim c.loop-i-test.branch [
+        | else-loop-i-test w ↦ sink_bottom (l.invariant.2 h) w.loop-i-test.false
+        | then-loop-i-test+then-not-comes_before w ↦ sink_stop (l.invariant.2 h) w.lesser_child-c.ensures (due-by refl w.entry_at-e.ensures (sym w.comes_before.ensures ∙ w.if-not-comes_before.true))
+      ]);
       same = rw c.put-2.ensures (l.invariant.2 h).same;
     }

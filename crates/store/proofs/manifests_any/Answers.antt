@@ -14,7 +14,7 @@ use Rattle.store.proofs.Scan.{none_further, any_one, any_here, none_at_all}
 use Rattle.store.proofs.manifests_any.Goals as goal
 
 pub loop-i-init : goal.loop-i-init
-loop-i-init c = c.unmanifested_blocks-i.ensures
+loop-i-init c = (c.unmanifested_blocks-i.ensures.few, c.unmanifested_blocks-i.ensures.none)
 
 pub returns-then-manifests_at : goal.returns-then-manifests_at
 returns-then-manifests_at c d conflicts n k w l =

@@ -17,7 +17,7 @@ pub loop-at-init : goal.loop-at-init
 loop-at-init c = (omega arith, λ d conflicts n k w l. refl)
 
 pub returns-then-four_manifest : goal.returns-then-four_manifest
-returns-then-four_manifest c = c.loop-at.invariant
+returns-then-four_manifest c = record { few = c.loop-at.invariant.0; none = c.loop-at.invariant.1 }
 
 pub loop-at-preserved : goal.loop-at-preserved
 loop-at-preserved c =
@@ -31,4 +31,4 @@ loop-at-preserved c =
     )
 
 pub returns : goal.returns
-returns c = c.loop-at.invariant
+returns c = record { few = c.loop-at.invariant.0; none = c.loop-at.invariant.1 }

@@ -1,6 +1,7 @@
 -- `unpacked` meets its contract, case by case. Assumes nothing.
 use mathlib.Core.Path.{sym}
 use borrow.Author.Rules.{rules}
+use native.Mathlib.Omega.{arith}
 use Rattle.trials.specs.Answers.{answer_as, answer_in}
 use Rattle.trials.proofs.Endings.{as_rest}
 use Rattle.trials.proofs.unpacked.Goals as goal
@@ -15,4 +16,4 @@ returns-in-1 c = rw c.in-1.is
 
 pub returns-in_default : goal.returns-in_default
 unfolding answer_in
-returns-in_default c = sym (as_rest _ _ c.in-0.rest.0.1 c.in-0.rest.1)
+returns-in_default c = sym (as_rest _ _ (omega (arith, c.in_default)) (omega (arith, c.in_default)))

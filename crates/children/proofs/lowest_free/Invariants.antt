@@ -1,0 +1,17 @@
+-- `children::lowest_free` meets its contract. The loop's invariant: the variables passed are assigned. Assumes nothing.
+use mathlib.Core.Path.{◌≡◌, sym, ◌∙◌}
+use Prim.Native.Nat.{ℕ, ◌-◌, ◌≤◌}
+use native.Mathlib.Omega.{arith}
+use borrow.Author.Tests.{not-true, not-false}
+use lib.ListN.{length}
+use Rattle.model.specs.Assignment.{Assignment}
+use Rattle.theory.specs.Words.{Words}
+use Rattle.theory.specs.Nodes.{Filled}
+use Rattle.children.proofs.Walk.{is_none, assigned-is, filled_next}
+use Rattle.children.proofs.lowest_free.Given as goal
+
+abbrev pub invariant-loop-v : goal.invariant-loop-v
+invariant-loop-v l = (l.v ≤ l.d) × ((n : Assignment) (values : ℕ) → Words n l.mask values → length n ≡ l.d → Filled l.v n)
+
+abbrev pub decreases-loop-v : goal.decreases-loop-v
+decreases-loop-v l = l.d - l.v

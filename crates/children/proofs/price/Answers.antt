@@ -1,0 +1,7 @@
+-- `children::price` meets its contract: it reads the table. Assumes nothing.
+use mathlib.Core.Path.{refl}
+use borrow.Author.Rules.{rules}
+use Rattle.children.proofs.price.Goals as goal
+
+pub returns : goal.returns
+returns c = refl

@@ -1,0 +1,13 @@
+pub mod Examples
+pub mod Edges
+pub mod Refusals
+pub mod Alone
+pub mod Shown
+pub mod Stores
+pub mod Exports
+pub mod Parts
+pub mod Weights
+pub mod WeightRefusals
+pub mod Departures
+pub mod TableExamples
+pub mod TextExamples

@@ -1,0 +1,35 @@
+-- `write_variables::row` meets its contract. The loop's invariant: the fields of the costs before place i are put behind the size's. Assumes nothing.
+use Prim.Native.Nat.{◌-◌}
+use native.Mathlib.Omega.{arith}
+use lib.ListN.{length}
+use Rattle.model.specs.Sheet.{edition1}
+use Rattle.theory.proofs.Digits.{digits_length}
+use Rattle.theory.proofs.Puts.{puts_then}
+use Rattle.theory.proofs.Bits.{bits_length}
+use Rattle.write_variables.proofs.Laws.{FieldsTo, fields-start, fields-room, fields-step, fields-end, row_length}
+use Rattle.write_variables.proofs.row.Goals as goal
+
+pub put-at-requires : goal.put-at-requires
+put-at-requires c = let long = row_length c.args.costs.now in (omega arith, omega arith, omega arith, omega arith)
+
+pub loop-i-init : goal.loop-i-init
+loop-i-init c =
+    let costs = c.args.costs.now in
+    fields-start (omega (arith, row_length costs, digits_length 2 4 (length costs - 1)))
+
+pub overflow_cast-costs-in-loop-i : goal.overflow_cast-costs-in-loop-i
+overflow_cast-costs-in-loop-i c = omega (arith, c.shared_slice_known-in-loop-i-1.given c.loop-i.i)
+
+pub put-at-requires-in-loop-i : goal.put-at-requires-in-loop-i
+put-at-requires-in-loop-i c =
+    let room = fields-room c.loop-i.invariant c.loop-i-test.true in
+    (omega arith, omega (arith, c.shared_slice_known-in-loop-i-1.given c.loop-i.i), room, omega arith)
+
+pub loop-i-preserved : goal.loop-i-preserved
+loop-i-preserved c = fields-step c.loop-i.invariant c.loop-i-test.true (omega arith) c.put-at-in-loop-i.ensures
+
+pub returns : goal.returns
+unfolding edition1
+returns c =
+    let put = c.put-at in
+    puts_then (omega (arith, bits_length c.args.sheet.now)) put.ensures (fields-end c.loop-i.invariant c.loop-i-test.false)
