@@ -6,7 +6,7 @@ ghost use Rattle.model.specs.Calls.{refusal_number};
 ghost use Rattle.refusal.specs.Refusal.{refusal_of};
 
 // Who caused a refusal, and its number.
-#[derive(Drop)]
+#[derive(Clone, Copy)]
 pub enum Refusal {
     Host(u32),
     Author(u32),
