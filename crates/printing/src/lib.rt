@@ -1,4 +1,5 @@
-// The parts of a line to a writer: texts, and numbers in decimal and in hexadecimal.
+// The parts of a line to a writer: texts, and numbers in decimal and in hexadecimal. What a hexadecimal number writes is not
+// promised; the comparison with what a program must write shows it.
 #![tactic(auto)]
 
 ghost use Rattle.std.specs.Prelude.{OnOk, [], ◌∷◌, ◌++◌};

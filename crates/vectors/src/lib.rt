@@ -1,5 +1,5 @@
 // What the programs that replay the outside program's vectors share: the checksum, and reading the numbers and blocks of a
-// vector stream from standard input. No function has a `requires`, and none says what was read.
+// vector stream from a reader; the program `leading` reads its block too. No function has a `requires`.
 #![tactic(auto)]
 
 mod checksum;
