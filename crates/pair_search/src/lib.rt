@@ -2,6 +2,7 @@
 // and the trials left, and notes in the plan the values that it found; where it finds none from a variable on, it notes by
 // which clauses, and recalls that where it comes to the variable again.
 #![tactic(auto)]
+
 ghost use Rattle.std.specs.Prelude.{◌≡◌, List, ℕ, length};
 ghost use Rattle.clauses.specs.Numbers.{pair_clauses};
 ghost use Rattle.clauses.specs.Sets.{in_set, in_pair};

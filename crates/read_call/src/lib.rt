@@ -2,6 +2,7 @@
 // numbers and tables at the front of the lent ones. The sheet is decoded into tables of the call's own, so that a refusal
 // leaves the lent ones as they were.
 #![tactic(auto)]
+
 ghost use Rattle.std.specs.Prelude.{◌≡◌, [], ◌∷◌, ◌+◌, ◌*◌, ◌≤◌, length, take};
 ghost use Rattle.model.specs.Lists.{All, in_turn, filled};
 ghost use Rattle.model.specs.Tables.{Tables, total as total_of};

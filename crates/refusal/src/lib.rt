@@ -1,6 +1,7 @@
 // What refuses a call on a sheet: who caused it, and by which number. A call that is not refused goes on over the tables
 // that the sheet's reader left; `Reading` says what these are.
 #![tactic(auto)]
+
 ghost use Rattle.std.specs.Prelude.{◌≡◌};
 ghost use Rattle.model.specs.Calls.{refusal_number};
 ghost use Rattle.refusal.specs.Refusal.{refusal_of};

@@ -1,6 +1,7 @@
 // The search on a plant of more than 128 clauses: a set is eight words. It writes each value that it tries into the bytes of
 // the assignment, and takes it back where it finds none.
 #![tactic(auto)]
+
 ghost use Rattle.std.specs.Prelude.{◌≤◌, length};
 ghost use Rattle.clauses.specs.Numbers.{most_clauses, uses_words};
 ghost use Rattle.clauses.specs.Sets.{in_set};

@@ -1,6 +1,7 @@
 // The rules of the tables that a sheet is written of: whether their lengths agree with the numbers, and the first ground on
 // which their author is refused.
 #![tactic(auto)]
+
 ghost use Rattle.std.specs.Prelude.{◌≡◌, ◌&&◌, List, ℕ, ◌*◌, ◌≤◌, ◌^◌, leb, length};
 ghost use Rattle.model.specs.Lists.{all_of, in_turn};
 ghost use Rattle.model.specs.Sheet.{Literal, edition1};

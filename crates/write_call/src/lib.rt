@@ -1,6 +1,7 @@
 // The call that writes a sheet of tables into a lent buffer, whatever these are: the refusals in their order, or the sheet at
 // the buffer's front.
 #![tactic(auto)]
+
 ghost use Rattle.std.specs.Prelude.{◌≡◌};
 ghost use Rattle.model.specs.TableCalls.{write_call};
 ghost use Rattle.theory.specs.WriteRead.{WritePromises};
