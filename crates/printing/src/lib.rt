@@ -1,9 +1,10 @@
-// The parts of a line to a writer: texts, and numbers in decimal and in hexadecimal. What a hexadecimal number writes is not
-// promised; the comparison with what a program must write shows it.
+// The parts of a line to a writer: texts, and numbers in decimal and in hexadecimal. Each says which bytes a writer that
+// keeps its bytes has more; what the system does with them no contract can say.
 #![tactic(auto)]
 
 ghost use Rattle.std.specs.Prelude.{OnOk, [], ◌∷◌, ◌++◌};
 ghost use Rattle.std.specs.Fmt.{decimal};
+ghost use Rattle.printing.specs.Hex.{hex_padded};
 ghost use Rattle.std.specs.Io.KnownBytes.{Appends};
 
 use std::io;
@@ -25,13 +26,17 @@ pub fn print_number<W: Write>(out: &mut W, n: u64, after: u8) -> io::Result<()>
 }
 
 // Writes a number in eight hexadecimal digits and the byte that follows it.
-pub fn print_hex8<W: Write>(out: &mut W, n: u32, after: u8) -> io::Result<()> {
+pub fn print_hex8<W: Write>(out: &mut W, n: u32, after: u8) -> io::Result<()>
+    ensures { OnOk result (Appends (W.contents out.old) (W.contents out.new) (hex_padded 8 n ++ (after ∷ []))) }
+{
     write!(out, "{n:08x}")?;
     out.write_all(&[after])
 }
 
 // Writes a number in sixteen hexadecimal digits and the byte that follows it.
-pub fn print_hex16<W: Write>(out: &mut W, n: u64, after: u8) -> io::Result<()> {
+pub fn print_hex16<W: Write>(out: &mut W, n: u64, after: u8) -> io::Result<()>
+    ensures { OnOk result (Appends (W.contents out.old) (W.contents out.new) (hex_padded 16 n ++ (after ∷ []))) }
+{
     write!(out, "{n:016x}")?;
     out.write_all(&[after])
 }
