@@ -13,23 +13,22 @@ help:
 	@echo 'make bench     figures: ours, a plain and a same-design implementation in C'
 	@echo 'make install   header, archive, leading.pc and manual to PREFIX ($(PREFIX)), under DESTDIR'
 
-# what rt says at length is in target/run.log
+# what rt says at length is in target/run.log; the program is left in target/bin
 run:
 	@bash .ci/prove leading target/run.log
 	@./target/bin/leading < crates/leading/stdin
 
 prove:
-	rt check
+	rt all test
 
 test:
 	bash .ci/run
 
-# the extern functions of the crates that export some, in one archive; each of these comes from the kit in one of its own
-EXPORTS = export export_weights export_tables
+# what rt says at length is in target/lib/archive.log
 archive:
-	mkdir -p target/lib
-	for crate in $(EXPORTS); do rt staticlib $$crate || exit 1; done > target/lib/archive.log 2>&1 || { cat target/lib/archive.log; exit 1; }
-	{ echo 'CREATE $(ARCHIVE)'; printf 'ADDLIB target/staticlib/lib%s.a\n' $(EXPORTS); echo SAVE; echo END; } | ar -M
+	@mkdir -p target/lib
+	cd crates/leading_c && rt lib > ../../target/lib/archive.log 2>&1 || { cat ../../target/lib/archive.log; exit 1; }
+	cp crates/leading_c/out/libleading_c.a $(ARCHIVE)
 
 host: archive
 	bash host/check.sh $(ARCHIVE)

@@ -1,10 +1,16 @@
 """A small change of a file of crates/model/specs: its name, the file, and texts in it with what stands there instead."""
 
 CHANGES = []
+PRELUDE = "use Rattle.std.specs.Prelude.{"
 
 
 def change(name, file, *texts):
     CHANGES.append((name, file, list(zip(texts[::2], texts[1::2]))))
+
+
+def taking(name):
+    """Two texts for `change`: the file takes this name too from the library."""
+    return PRELUDE, f"{PRELUDE}{name}, "
 
 
 def changed(text, pairs, name):

@@ -3,7 +3,7 @@
     python3 changes/try_changes.py [-j LANES] [--only TEXT]
     python3 changes/try_changes.py --places
 
-Each change is made by itself in a copy of crates/model, and `rt dev model` says: 'noticed' where a row of the tables
+Each change is made by itself in a copy of crates/model, and `rt check` there says: 'noticed' where a row of the tables
 fails, 'NOT NOTICED' where all is proved, 'BROKEN' where the changed definitions themselves are refused, so that the change
 says nothing. A change that means the same is 'equivalent', with the reason. TEXT chooses the changes whose name has it, or
 those of a file. With --places nothing is proved: each change has to have its places in the model, and a name of its own.
@@ -37,27 +37,27 @@ EQUIVALENT = {
 
 
 def verdict_of(output, proved):
-    """What `rt dev model` said of a change, and where."""
-    errors = re.findall(r"specs/(\w+)\.antt:(\d+):\d+: error: `([^`]*)`: (.*)", output)
+    """What `rt check` said of a change, and where."""
+    errors = re.findall(r"\b(specs|proofs)/(\w+)\.antt:(\d+):\d+: error: `([^`]*)`: (.*)", output)
     if proved and "logic=proved" in output:
         return "NOT NOTICED", ""
     if not errors:
         return "BROKEN", output[-200:]
-    for file, line, what, why in errors:
-        if file in MEANING or "not in scope" in why or "no field" in why:
-            return "BROKEN", f"{file}:{line} {what}: {why[:160]}"
-    return "noticed", ", ".join(dict.fromkeys(f"{file}.{what}" for file, _, what, _ in errors))
+    for part, file, line, what, why in errors:
+        if part == "specs" and file in MEANING or "not in scope" in why or "no field" in why:
+            return "BROKEN", f"{part}/{file}:{line} {what}: {why[:160]}"
+    return "noticed", ", ".join(dict.fromkeys(f"{file}.{what}" for _, file, _, what, _ in errors))
 
 
 def prove(lane):
-    done = subprocess.run(["rt", "dev", "model"], cwd=lane, capture_output=True, text=True)
+    done = subprocess.run(["rt", "check"], cwd=lane / "crates" / "model", capture_output=True, text=True)
     return verdict_of(done.stdout + done.stderr, done.returncode == 0)
 
 
 def new_lane(folder, number):
     """A copy of the model alone, proved once so that a change proves only what it touches."""
     lane = Path(folder) / str(number)
-    shutil.copytree(MODEL, lane / "crates" / "model", ignore=shutil.ignore_patterns("must-fail"))
+    shutil.copytree(MODEL, lane / "crates" / "model", ignore=shutil.ignore_patterns("must-fail", "out"))
     (lane / "crates.txt").write_text("model:\n")
     if prove(lane)[0] != "NOT NOTICED":
         sys.exit("the model itself is not proved")

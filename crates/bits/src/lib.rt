@@ -16,7 +16,7 @@ ghost use Rattle.bits.specs.Blend.{blended};
 const ABOVE_WORDS: u32 = 16777216;
 
 // What stands at a place: a number, or nothing because the field runs past the end.
-#[derive(Drop)]
+#[derive(Clone, Copy)]
 pub enum Field {
     Value(u32),
     Past,
@@ -98,7 +98,7 @@ pub fn take<'s, 'a>(r: &'s mut Reader<'a>, w: usize) -> Field
 }
 
 // Three fields that stand one after another.
-#[derive(Drop)]
+#[derive(Clone, Copy)]
 pub struct Fields {
     pub first: Field,
     pub second: Field,

@@ -31,7 +31,7 @@ pub struct Node {
 }
 
 // What became of children: so many entries are in the queue now, or the children outnumber its free entries.
-#[derive(Drop)]
+#[derive(Clone, Copy)]
 pub enum Put {
     Entries(usize),
     Full,

@@ -11,7 +11,7 @@ use plan::Plan;
 use trials::Answer;
 
 // How a reduction ends, with the trials made so far: the conflict's two words, or 'spent'.
-#[derive(Drop)]
+#[derive(Clone, Copy)]
 pub enum Reduced {
     Conflict(u64, u64, u32),
     Spent(u32),

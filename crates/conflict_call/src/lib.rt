@@ -1,6 +1,7 @@
 // The test and the reduction as calls on a plant sheet and two words, whatever these are: what refuses the sheet or the
 // words, and whose fault that is, or else what the test and the reduction answer. A test also gives the bytes that it shows.
 #![tactic(auto)]
+
 ghost use Rattle.std.specs.Prelude.{◌≡◌, ◌≤◌, length, replicate, take};
 ghost use Rattle.model.specs.Consistency.{test};
 ghost use Rattle.model.specs.Conflict.{reduce_alone};
@@ -20,7 +21,7 @@ use sheet::{COST_ENTRIES, COUNT_ENTRIES, LITERAL_BYTES, SIZE_ENTRIES};
 use trials::Answer;
 
 // What the test answers, with its trials.
-#[derive(Drop)]
+#[derive(Clone, Copy)]
 pub enum TestAnswer {
     Refused(Refusal),
     Consistent(u32),
@@ -36,7 +37,7 @@ pub struct TestShown {
 }
 
 // What the reduction answers, with its trials; a conflict by its two words.
-#[derive(Drop)]
+#[derive(Clone, Copy)]
 pub enum ReduceAnswer {
     Refused(Refusal),
     None(u32),

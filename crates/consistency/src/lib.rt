@@ -5,6 +5,7 @@
 // that are satisfied so far. With at most 128 clauses a set is two words (`pair_search`), with more it is eight
 // (`row_search`). A variable's value is a byte, and 16 says that it is unassigned.
 #![tactic(auto)]
+
 ghost use Rattle.model.specs.Tables.{clauses};
 ghost use Rattle.std.specs.Prelude.{map, ◌≡◌, ◌≤◌, length};
 ghost use Rattle.clauses.specs.Bytes.{given};

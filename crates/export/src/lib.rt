@@ -1,6 +1,7 @@
 // The calls on a sheet for a C program, on numbers and lent buffers: each returns a refusal's number, or 0 after its result
-// words were written. `include/leading.h` declares them, and with `export_weights` and `export_tables` they make the archive that a host links.
+// words were written. `leading_c` has them for C, with those of `export_weights` and `export_tables`.
 #![tactic(auto)]
+
 ghost use Rattle.std.specs.Prelude.{◌≡◌, [], ◌∷◌, ◌≤◌, length};
 ghost use Rattle.model.specs.Lists.{filled};
 ghost use Rattle.model.specs.Calls.{Buffers, ending_number, result_words, export_call, test_export, reduce_export};
@@ -28,8 +29,7 @@ const SHORT: u32 = 2;
 const VERSION: u32 = 131072;
 
 // The version of these exports, which the header has too.
-#[unsafe(no_mangle)]
-pub extern "C" fn leading_version() -> u32
+pub fn leading_version() -> u32
     ensures { result ≡ version }
 {
     VERSION
@@ -61,8 +61,7 @@ pub fn write(res: &mut [u32], e: Ending, c: Counts)
 }
 
 // The listing call: the result words are ending, listed, tested, learned, unkept and trials.
-#[unsafe(no_mangle)]
-pub extern "C" fn leading_list(
+pub fn leading_list(
     sheet: &[u8],
     codes: &mut [u64],
     costs: &mut [u32],
@@ -126,8 +125,7 @@ fn tested(
 
 // The test call: the result words are the answer (1 consistent, 2 inconsistent, 3 spent) and its trials; `shown` takes the
 // value of every variable after 'consistent', and zeros after the others.
-#[unsafe(no_mangle)]
-pub extern "C" fn leading_test(
+pub fn leading_test(
     sheet: &[u8],
     mask: u64,
     values: u64,
@@ -163,8 +161,7 @@ fn put(conflict: &mut [u64], mask: u64, values: u64)
 
 // The reduce call: the result words are the answer (1 none, 2 conflict, 3 spent) and its trials; a conflict's two words go
 // to `conflict`.
-#[unsafe(no_mangle)]
-pub extern "C" fn leading_reduce(
+pub fn leading_reduce(
     sheet: &[u8],
     mask: u64,
     values: u64,

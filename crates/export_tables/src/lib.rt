@@ -1,6 +1,7 @@
 // The calls on tables for a C program, on numbers and lent buffers: each returns a refusal's number, or 0 after it has written
-// the sheet or the tables. With `export` they make the archive that a host links.
+// the sheet or the tables. `leading_c` has them for C.
 #![tactic(auto)]
+
 ghost use Rattle.std.specs.Prelude.{◌≡◌, [], ◌∷◌, ◌≤◌, length, get_or};
 ghost use Rattle.model.specs.Lists.{filled};
 ghost use Rattle.model.specs.TableCalls.{write_export, read_export};
@@ -23,8 +24,7 @@ fn told(word: &mut [u32], n: u32) -> u32
 }
 
 // The writing call: the sheet of the tables goes to the front of `sheet`, and the number of its bytes to the word of `bytes`.
-#[unsafe(no_mangle)]
-pub extern "C" fn leading_write(
+pub fn leading_write(
     sizes: &[u8],
     costs: &[u16],
     counts: &[u8],
@@ -47,8 +47,7 @@ pub extern "C" fn leading_write(
 }
 
 // The reading call: the tables of the sheet go to the front of the lent ones, and its three numbers to `numbers`.
-#[unsafe(no_mangle)]
-pub extern "C" fn leading_read(
+pub fn leading_read(
     sheet: &[u8],
     sizes: &mut [u8; SIZE_ENTRIES],
     costs: &mut [u16; COST_ENTRIES],

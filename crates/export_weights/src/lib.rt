@@ -1,7 +1,7 @@
 // The listing call on a sheet of edition 2 for a C program, on numbers and lent buffers: it returns a refusal's number, or 0
-// after its result words were written. `include/leading.h` declares it, and with `export` and `export_tables` it makes the
-// archive that a host links.
+// after its result words were written. `leading_c` has it for C.
 #![tactic(auto)]
+
 ghost use Rattle.std.specs.Prelude.{◌≡◌};
 ghost use Rattle.model.specs.Sheet.{edition2};
 ghost use Rattle.model.specs.Calls.{Buffers, weights_export};
@@ -13,8 +13,7 @@ use listing::Answer;
 use weights_call::list_weights_with;
 
 // The listing call: the result words are ending, listed, tested, learned, unkept and trials.
-#[unsafe(no_mangle)]
-pub extern "C" fn leading_list_weights(
+pub fn leading_list_weights(
     sheet: &[u8],
     codes: &mut [u64],
     products: &mut [u64],

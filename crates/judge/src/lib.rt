@@ -3,6 +3,7 @@
 // entries go about in a `Progress`; `Standing` says for which state of the model the words stand, `NextIs` that a step
 // makes of the words what the model makes of the state.
 #![tactic(auto)]
+
 ghost use Rattle.std.specs.Prelude.{◌≡◌, true, List, ℕ, ◌+◌, ◌*◌, ◌/◌, ◌≤◌, ◌<◌, length};
 ghost use Rattle.model.specs.Assignment.{is_full};
 ghost use Rattle.model.specs.Calls.{state_bytes};
@@ -22,7 +23,7 @@ use text::put_bytes;
 use trials::Answer;
 
 // How far a run is: the entries of queue and store, the states listed, and the counts.
-#[derive(Drop)]
+#[derive(Clone, Copy)]
 pub struct Progress {
     pub queued: usize,
     pub stored: usize,
@@ -48,7 +49,7 @@ impl Progress {
 }
 
 // The four endings.
-#[derive(Drop)]
+#[derive(Clone, Copy)]
 pub enum Ending {
     Enough,
     All,
@@ -57,7 +58,7 @@ pub enum Ending {
 }
 
 // After a step: the run goes on, or it has ended.
-#[derive(Drop)]
+#[derive(Clone, Copy)]
 pub enum Next {
     More(Progress),
     Ended(Ending, Progress),

@@ -25,7 +25,7 @@ use refusal::Refusal;
 use steps::{Finished, run};
 
 // The counts of a run.
-#[derive(Drop)]
+#[derive(Clone, Copy)]
 pub struct Counts {
     pub listed: u32,
     pub tested: u32,
@@ -35,14 +35,14 @@ pub struct Counts {
 }
 
 // A refusal, which says whose, or a run with its ending and counts.
-#[derive(Drop)]
+#[derive(Clone, Copy)]
 pub enum Answer {
     Refused(Refusal),
     Ran(Ending, Counts),
 }
 
 // A run's ending and its counts.
-#[derive(Drop)]
+#[derive(Clone, Copy)]
 pub struct Ran {
     pub ending: Ending,
     pub counts: Counts,

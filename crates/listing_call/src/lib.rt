@@ -53,7 +53,7 @@ fn unfit(
 
 // What the calls of both editions share: a refusal, which says whose, or the number of decision variables and the run, with
 // its figures yet to be filled in.
-#[derive(Drop)]
+#[derive(Clone, Copy)]
 pub enum Listed {
     Refused(Refusal),
     Ran(usize, Ran),

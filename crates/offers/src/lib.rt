@@ -1,6 +1,7 @@
 // Step 1: the offered entries are checked in order, and those that survive move to the front of the store. One that is
 // found inconsistent is dropped if it contains one found before, and otherwise pushes out those that contain it.
 #![tactic(auto)]
+
 ghost use Rattle.std.specs.Prelude.{◌≡◌, List, [], ℕ, ◌+◌, ◌*◌, ◌≤◌, ◌<◌, length};
 ghost use Rattle.model.specs.Assignment.{Assignment};
 ghost use Rattle.model.specs.Listing.{survivors_of, check_offers};
@@ -17,7 +18,7 @@ use plan::Plan;
 use trials::Answer;
 
 // How many entries survive, with the trials made: all were checked, or the limit struck before.
-#[derive(Drop)]
+#[derive(Clone, Copy)]
 pub enum Offered {
     Checked(usize, u32),
     BrokenOff(usize, u32),

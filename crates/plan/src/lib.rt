@@ -37,7 +37,7 @@ pub type Plan = [u64; PLAN_WORDS];
 pub const NONE_NOTED: u64 = TRIALS_BELOW;
 
 // What is made of the variables from one on: the clauses that they satisfy, the clauses that one of them leaves open, and the first unassigned one.
-#[derive(Drop)]
+#[derive(Clone, Copy)]
 pub struct Sets {
     pub held1: u64,
     pub held2: u64,

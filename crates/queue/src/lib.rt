@@ -18,7 +18,7 @@ ghost use Rattle.queue.specs.Inside.{HeapFrom, LesserChild, Sifted, Rebuilt, Sta
 ghost use Rattle.queue.specs.Queue.{Holds};
 
 // The two words of an entry.
-#[derive(Drop)]
+#[derive(Clone, Copy)]
 pub struct Entry {
     pub a: u64,
     pub b: u64,

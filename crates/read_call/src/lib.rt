@@ -20,7 +20,7 @@ use table_rules::total;
 use text::put_bytes;
 
 // What a reading answers: a refusal, which says whose, or that the tables hold the sheet.
-#[derive(Drop)]
+#[derive(Clone, Copy)]
 pub enum Opened {
     Refused(Refusal),
     Tables,

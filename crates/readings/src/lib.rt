@@ -42,14 +42,14 @@ pub const LITERAL_BYTES: usize = COUNT_ENTRIES * CLAUSE_BYTES;
 pub const NUMBERS: usize = 3;
 
 // A part that is in a table: the place after it, or a refusal.
-#[derive(Drop)]
+#[derive(Clone, Copy)]
 pub enum Step {
     Next(usize),
     Refused(u32),
 }
 
 // A number, of what was read or of how many entries of a table it fills, with the place after it; or a refusal.
-#[derive(Drop)]
+#[derive(Clone, Copy)]
 pub enum Item {
     Got(usize, usize),
     Refused(u32),

@@ -24,7 +24,7 @@ pub fn number(r: Refusal) -> u32
 }
 
 // What a call that only writes out bytes answers: a refusal, which says whose, or how many bytes it wrote.
-#[derive(Drop)]
+#[derive(Clone, Copy)]
 pub enum Written {
     Refused(Refusal),
     Bytes(u32),

@@ -18,7 +18,7 @@ pub use readings::{CLAUSE_BYTES, COST_ENTRIES, COUNT_ENTRIES, LITERAL_BYTES, SIZ
 use readings::{STATES, Step};
 
 // The numbers of decision variables, state variables and clauses, or a refusal.
-#[derive(Drop)]
+#[derive(Clone, Copy)]
 pub enum Answer {
     Counts(usize, usize, usize),
     Refused(u32),

@@ -13,7 +13,7 @@ use bits::Field;
 use readings::{Item, LITERAL_BITS, Step};
 
 // A literal's variable, sign and value, or a refusal.
-#[derive(Drop)]
+#[derive(Clone, Copy)]
 pub enum Lit {
     Is(u8, u8, u8),
     Refused(u32),

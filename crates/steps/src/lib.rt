@@ -15,7 +15,7 @@ use judge::{Ending, Next, Progress};
 use plan::Plan;
 
 // A run that has ended.
-#[derive(Drop)]
+#[derive(Clone, Copy)]
 pub struct Finished {
     pub ending: Ending,
     pub progress: Progress,

@@ -20,7 +20,7 @@ use words::Pair;
 pub const BLOCK: usize = 8;
 
 // The mask and the values of the first conflict that a node does not resolve, if there is one.
-#[derive(Drop)]
+#[derive(Clone, Copy)]
 pub enum Unresolved {
     At(u64, u64),
     Nothing,

@@ -12,7 +12,7 @@ pub const TRIALS_BELOW: u64 = 4294967296;
 const SPENT: u64 = 2 * TRIALS_BELOW;
 
 // How a test ends, with the trials made so far.
-#[derive(Drop)]
+#[derive(Clone, Copy)]
 pub enum Answer {
     Consistent(u32),
     Inconsistent(u32),

@@ -16,7 +16,7 @@ ghost use Rattle.theory.specs.Words.{Words, byte, wide_of, Wide, sixteens};
 use limits::{DECISIONS, UNASSIGNED, VALUES};
 
 // The two words of an assignment.
-#[derive(Drop)]
+#[derive(Clone, Copy)]
 pub struct Pair {
     pub mask: u64,
     pub values: u64,
