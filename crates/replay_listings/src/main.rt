@@ -2,6 +2,7 @@
 // either edition, in buffers of the lengths and words that the case says, and prints its answer and a checksum of every lent word. What it
 // must print was written by the outside program.
 #![tactic(auto)]
+
 ghost use Rattle.std.specs.Prelude.{◌≡◌, ◌≤◌, length};
 ghost use Rattle.vectors.specs.Bytes.{over, mix, mix64};
 
@@ -9,7 +10,8 @@ use answers::{print_ending, print_refusal};
 use listing::{Answer, Counts};
 use listing_call::list;
 use printing::{print_hex8, print_number};
-use std::num::wrapping_add_u64;
+use std::io;
+use std::io::{Read, Write};
 use vectors::{
     CHECKSUM_START, mixed_all, mixed_all_u32, mixed_all_u64, read_block, read_u8, read_u16,
     read_u32, read_u64,
@@ -25,23 +27,20 @@ const VALUES_ROOM: usize = 196_700;
 // Makes every word junk plus its own place.
 fn fill(words: &mut [u64], junk: u64) {
     let mut word = junk;
-    let mut i = 0;
-    while i < words.len() {
-        words[i] = word;
-        word = wrapping_add_u64(word, 1);
-        i += 1;
+    for w in words.iter_mut() {
+        *w = word;
+        word = word.wrapping_add(1);
     }
 }
 
 // Reads the first n words.
-fn read_words(words: &mut [u64], n: usize)
+fn read_words<R: Read>(input: &mut R, words: &mut [u64], n: usize) -> io::Result<()>
     requires { n ≤ length words.old }
 {
-    let mut i = 0;
-    while i < n {
-        words[i] = read_u64();
-        i += 1;
+    for i in 0..n {
+        words[i] = read_u64(input)?;
     }
+    Ok(())
 }
 
 // The checksum of every lent word behind the figures, from that of the words before.
@@ -54,27 +53,28 @@ fn checksum(figured: u32, values: &[u8], queue: &[u64], store: &[u64]) -> u32
 }
 
 // Prints the counts of a run.
-fn print_counts(c: Counts) {
-    print_number(c.listed as u64, b' ');
-    print_number(c.tested as u64, b' ');
-    print_number(c.learned as u64, b' ');
-    print_number(c.unkept as u64, b' ');
-    print_number(c.trials as u64, b' ');
+fn print_counts<W: Write>(out: &mut W, c: Counts) -> io::Result<()> {
+    print_number(out, c.listed as u64, b' ')?;
+    print_number(out, c.tested as u64, b' ')?;
+    print_number(out, c.learned as u64, b' ')?;
+    print_number(out, c.unkept as u64, b' ')?;
+    print_number(out, c.trials as u64, b' ')
 }
 
 // Prints a call's answer.
-fn print_answer(answer: Answer) {
+fn print_answer<W: Write>(out: &mut W, answer: Answer) -> io::Result<()> {
     match answer {
-        Answer::Refused(r) => print_refusal(r, b' '),
+        Answer::Refused(r) => print_refusal(out, r, b' '),
         Answer::Ran(e, c) => {
-            print_ending(e);
-            print_counts(c);
+            print_ending(out, e)?;
+            print_counts(out, c)
         }
     }
 }
 
 // Makes the call of edition 1 and prints its line.
-fn answer(
+fn answer<W: Write>(
+    out: &mut W,
     sheet: &[u8],
     k: u32,
     codes: &mut [u64],
@@ -84,15 +84,17 @@ fn answer(
     store: &mut [u64],
     held: usize,
     limit: u32,
-) {
-    print_answer(list(sheet, k, codes, costs, values, queue, store, held, limit));
+) -> io::Result<()> {
+    let listed = list(sheet, k, codes, costs, values, queue, store, held, limit);
+    print_answer(out, listed)?;
     let coded = mixed_all_u64(CHECKSUM_START, codes);
     let priced = mixed_all_u32(coded, costs);
-    print_hex8(checksum(priced, values, queue, store), b'\n');
+    print_hex8(out, checksum(priced, values, queue, store), b'\n')
 }
 
 // Makes the call of edition 2 and prints its line.
-fn answer_weights(
+fn answer_weights<W: Write>(
+    out: &mut W,
     sheet: &[u8],
     k: u32,
     codes: &mut [u64],
@@ -102,11 +104,12 @@ fn answer_weights(
     store: &mut [u64],
     held: usize,
     limit: u32,
-) {
-    print_answer(list_weights(sheet, k, codes, products, values, queue, store, held, limit));
+) -> io::Result<()> {
+    let listed = list_weights(sheet, k, codes, products, values, queue, store, held, limit);
+    print_answer(out, listed)?;
     let coded = mixed_all_u64(CHECKSUM_START, codes);
     let weighed = mixed_all_u64(coded, products);
-    print_hex8(checksum(weighed, values, queue, store), b'\n');
+    print_hex8(out, checksum(weighed, values, queue, store), b'\n')
 }
 
 // So many bytes of values as there is room for.
@@ -118,15 +121,21 @@ fn at_most_room(n: u32) -> usize
 }
 
 // Reads the rest of a case, from the lengths of its buffers on, and answers it.
-fn replay_on(call: u8, sheet: &[u8], k: u32) {
-    let codes_len = read_u16();
-    let costs_len = read_u16();
-    let values_len = at_most_room(read_u32());
-    let queue_len = read_u16();
-    let store_len = read_u16();
-    let held = read_u16();
-    let limit = read_u32();
-    let given = read_u16();
+fn replay_on<R: Read, W: Write>(
+    input: &mut R,
+    out: &mut W,
+    call: u8,
+    sheet: &[u8],
+    k: u32,
+) -> io::Result<()> {
+    let codes_len = read_u16(input)?;
+    let costs_len = read_u16(input)?;
+    let values_len = at_most_room(read_u32(input)?);
+    let queue_len = read_u16(input)?;
+    let store_len = read_u16(input)?;
+    let held = read_u16(input)?;
+    let limit = read_u32(input)?;
+    let given = read_u16(input)?;
     let mut codes = [0u64; 65536];
     let mut costs = [0x2222_2222u32; 65536];
     let mut products = [0x2222_2222_2222_2222u64; 65536];
@@ -136,9 +145,10 @@ fn replay_on(call: u8, sheet: &[u8], k: u32) {
     fill(&mut codes, 0x1111_1111_1111_1111);
     fill(&mut queue, 0x3333_3333_3333_3333);
     fill(&mut store, 0x4444_4444_4444_4444);
-    read_words(&mut store, given);
+    read_words(input, &mut store, given)?;
     if call == SECOND {
-        answer_weights(
+        return answer_weights(
+            out,
             sheet,
             k,
             &mut codes[..codes_len],
@@ -149,9 +159,9 @@ fn replay_on(call: u8, sheet: &[u8], k: u32) {
             held,
             limit,
         );
-        return;
     }
     answer(
+        out,
         sheet,
         k,
         &mut codes[..codes_len],
@@ -161,23 +171,26 @@ fn replay_on(call: u8, sheet: &[u8], k: u32) {
         &mut store[..store_len],
         held,
         limit,
-    );
+    )
 }
 
 // Reads one case and answers it.
-fn replay() {
-    let call = read_u8();
-    let mut bytes = io::large_buffer();
-    let n = read_block(&mut bytes, read_u16());
-    let k = read_u32();
-    replay_on(call, &bytes[..n], k);
+fn replay<R: Read, W: Write>(input: &mut R, out: &mut W) -> io::Result<()> {
+    let call = read_u8(input)?;
+    let mut bytes = [0u8; 65536];
+    let length = read_u16(input)?;
+    let n = read_block(input, &mut bytes, length)?;
+    let k = read_u32(input)?;
+    replay_on(input, out, call, &bytes[..n], k)
 }
 
 // Reads the number of cases, and replays each.
-fn main() {
-    let mut left = read_u16();
-    while left > 0 {
-        replay();
-        left -= 1;
+fn main(rt: HostRuntime) -> io::Result<()> {
+    let mut input = rt.stdin();
+    let mut out = rt.stdout();
+    let cases = read_u16(&mut input)?;
+    for _ in 0..cases {
+        replay(&mut input, &mut out)?;
     }
+    Ok(())
 }

@@ -2,24 +2,22 @@
 // each, the refusal's number or the counts and a checksum of the decoded tables. What it must print was written by the
 // outside reader.
 #![tactic(auto)]
+
 ghost use Rattle.std.specs.Prelude.{◌≤◌, length};
 ghost use Rattle.readings.specs.Lengths.{size_entries, cost_entries, count_entries, literal_bytes};
 
 use limits::VALUES;
 use printing::{print_hex8, print_number, print_text};
 use sheet::{Answer, CLAUSE_BYTES, COST_ENTRIES, COUNT_ENTRIES, LITERAL_BYTES, SIZE_ENTRIES};
+use std::io;
+use std::io::{Read, Write};
 use vectors::{CHECKSUM_START, mixed_all, mixed_u16, read_block, read_u16};
 
 // The checksum with the first costs of a row, as many as its size says.
 fn mixed_row(hash: u32, row: &[u16], size: u8) -> u32 {
     let mut h = hash;
-    let mut x = 0;
-    while x < row.len() {
-        if x == size as usize {
-            return h;
-        }
-        h = mixed_u16(h, row[x]);
-        x += 1;
+    for cost in row.iter().take(size as usize) {
+        h = mixed_u16(h, *cost);
     }
     h
 }
@@ -29,12 +27,10 @@ fn mixed_rows(hash: u32, sizes: &[u8], costs: &[u16], d: usize) -> u32
     requires { (d ≤ 16) × (16 ≤ length sizes.now) × (cost_entries ≤ length costs.now) }
 {
     let mut h = hash;
-    let mut v = 0;
-    while v < d {
+    for v in 0..d {
         let at = VALUES * v;
         let end = at + VALUES;
         h = mixed_row(h, &costs[at..end], sizes[v]);
-        v += 1;
     }
     h
 }
@@ -47,13 +43,11 @@ fn literal_bytes(counts: &[u8]) -> usize
     ensures { result ≤ literal_bytes }
 {
     let mut n = 0;
-    let mut i = 0;
-    while i < counts.len() {
+    for count in counts {
         if n > LAST_CLAUSE {
             return n;
         }
-        n += 3 * (counts[i] as usize % 16);
-        i += 1;
+        n += 3 * (*count as usize % 16);
     }
     n
 }
@@ -79,7 +73,7 @@ fn checksum(
 }
 
 // Decodes a sheet by the edition that its first byte says, and prints its line.
-fn answer(bytes: &[u8]) {
+fn answer<W: Write>(out: &mut W, bytes: &[u8]) -> io::Result<()> {
     let mut sizes = [0u8; SIZE_ENTRIES];
     let mut costs = [0u16; COST_ENTRIES];
     let mut counts = [0u8; COUNT_ENTRIES];
@@ -94,31 +88,34 @@ fn answer(bytes: &[u8]) {
         &mut lits,
     ) {
         Answer::Refused(number) => {
-            print_text(b"refused ");
-            print_number(number as u64, b'\n');
+            print_text(out, b"refused ")?;
+            print_number(out, number as u64, b'\n')
         }
         Answer::Counts(d, s, c) => {
             let h = checksum(d, s, c, &sizes, &costs, &counts, &lits);
-            print_number(d as u64, b' ');
-            print_number(s as u64, b' ');
-            print_number(c as u64, b' ');
-            print_hex8(h, b'\n');
+            print_number(out, d as u64, b' ')?;
+            print_number(out, s as u64, b' ')?;
+            print_number(out, c as u64, b' ')?;
+            print_hex8(out, h, b'\n')
         }
     }
 }
 
 // Reads one sheet and prints its line.
-fn replay() {
-    let mut bytes = io::large_buffer();
-    let n = read_block(&mut bytes, read_u16());
-    answer(&bytes[..n]);
+fn replay<R: Read, W: Write>(input: &mut R, out: &mut W) -> io::Result<()> {
+    let mut bytes = [0u8; 65536];
+    let length = read_u16(input)?;
+    let n = read_block(input, &mut bytes, length)?;
+    answer(out, &bytes[..n])
 }
 
 // Reads the number of sheets, and replays each.
-fn main() {
-    let mut left = read_u16();
-    while left > 0 {
-        replay();
-        left -= 1;
+fn main(rt: HostRuntime) -> io::Result<()> {
+    let mut input = rt.stdin();
+    let mut out = rt.stdout();
+    let sheets = read_u16(&mut input)?;
+    for _ in 0..sheets {
+        replay(&mut input, &mut out)?;
     }
+    Ok(())
 }

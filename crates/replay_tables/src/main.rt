@@ -2,7 +2,8 @@
 // buffer of the length and the byte that the case says, reads a written sheet into lent tables, and prints both answers with
 // checksums of every lent byte. What it must print was written by the outside program.
 #![tactic(auto)]
-ghost use Rattle.std.specs.Prelude.{◌≡◌, ◌≤◌, length};
+
+ghost use Rattle.std.specs.Prelude.{◌≡◌, ◌≤◌, IfOk, length};
 ghost use Rattle.vectors.specs.Bytes.{checksum_start, over, mix, mix16};
 
 use answers::print_refusal;
@@ -10,6 +11,8 @@ use printing::{print_hex8, print_number, print_text};
 use read_call::Opened;
 use readings::{COST_ENTRIES, COUNT_ENTRIES, LITERAL_BYTES, SIZE_ENTRIES};
 use refusal::{Refusal, Written};
+use std::io;
+use std::io::{Read, Write};
 use vectors::{CHECKSUM_START, mixed_all, mixed_all_u16, read_block, read_u8, read_u16, read_u32};
 
 // What the tables that are lent to a reading hold before, in every byte.
@@ -19,22 +22,20 @@ const COST_JUNK: u16 = 0xa5a5;
 
 // Makes every byte the same.
 fn fill(bytes: &mut [u8], byte: u8) {
-    let mut i = 0;
-    while i < bytes.len() {
-        bytes[i] = byte;
-        i += 1;
+    for b in bytes.iter_mut() {
+        *b = byte;
     }
 }
 
 // Reads the first n costs.
-fn read_costs(costs: &mut [u16], n: usize)
+fn read_costs<R: Read>(input: &mut R, costs: &mut [u16], n: usize) -> io::Result<()>
     requires { n ≤ length costs.old }
 {
-    let mut i = 0;
-    while i < n {
-        costs[i] = read_u16() as u16;
-        i += 1;
+    for i in 0..n {
+        let cost = read_u16(input)?;
+        costs[i] = cost as u16;
     }
+    Ok(())
 }
 
 // The checksum of every entry of lent tables.
@@ -53,12 +54,12 @@ fn checksum(
 }
 
 // Prints a number and a space.
-fn print_count(n: u32) {
-    print_number(n as u64, b' ');
+fn print_count<W: Write>(out: &mut W, n: u32) -> io::Result<()> {
+    print_number(out, n as u64, b' ')
 }
 
 // Reads a sheet into lent tables, and prints its numbers and a checksum of the tables.
-fn read_back(sheet: &[u8]) {
+fn read_back<W: Write>(out: &mut W, sheet: &[u8]) -> io::Result<()> {
     let mut sizes = [JUNK; SIZE_ENTRIES];
     let mut costs = [COST_JUNK; COST_ENTRIES];
     let mut counts = [JUNK; COUNT_ENTRIES];
@@ -72,26 +73,27 @@ fn read_back(sheet: &[u8]) {
         &mut lits,
         &mut numbers,
     ) {
-        Opened::Refused(r) => print_refusal(r, b' '),
+        Opened::Refused(r) => print_refusal(out, r, b' ')?,
         Opened::Tables => {
-            print_count(numbers[0]);
-            print_count(numbers[1]);
-            print_count(numbers[2]);
+            print_count(out, numbers[0])?;
+            print_count(out, numbers[1])?;
+            print_count(out, numbers[2])?;
         }
     }
-    print_hex8(checksum(&sizes, &costs, &counts, &lits), b'\n');
+    print_hex8(out, checksum(&sizes, &costs, &counts, &lits), b'\n')
 }
 
 // Prints who caused a refusal.
-fn print_whose(r: Refusal) {
+fn print_whose<W: Write>(out: &mut W, r: Refusal) -> io::Result<()> {
     match r {
-        Refusal::Host(_) => print_text(b"host "),
-        Refusal::Author(_) => print_text(b"author "),
+        Refusal::Host(_) => print_text(out, b"host "),
+        Refusal::Author(_) => print_text(out, b"author "),
     }
 }
 
 // Writes the sheet of tables, and prints the answer and a checksum of the buffer; answers how many bytes there are to read.
-fn answer(
+fn answer<W: Write>(
+    out: &mut W,
     sizes: &[u8],
     costs: &[u16],
     counts: &[u8],
@@ -100,51 +102,73 @@ fn answer(
     d: u32,
     s: u32,
     c: u32,
-) -> usize
-    ensures { result ≤ 65536 }
+) -> io::Result<usize>
+    ensures { IfOk result (λ n. n ≤ 65536) }
 {
     match write_call::write_call(sizes, costs, counts, lits, sheet, d, s, c) {
         Written::Refused(r) => {
-            print_refusal(r, b' ');
-            print_whose(r);
-            print_hex8(mixed_all(CHECKSUM_START, sheet), b'\n');
-            0
+            print_refusal(out, r, b' ')?;
+            print_whose(out, r)?;
+            print_hex8(out, mixed_all(CHECKSUM_START, sheet), b'\n')?;
+            Ok(0)
         }
         Written::Bytes(n) => {
-            print_text(b"wrote ");
-            print_count(n);
-            print_hex8(mixed_all(CHECKSUM_START, sheet), b' ');
-            n as usize
+            print_text(out, b"wrote ")?;
+            print_count(out, n)?;
+            print_hex8(out, mixed_all(CHECKSUM_START, sheet), b' ')?;
+            Ok(n as usize)
         }
     }
 }
 
 // Reads the rest of a case, its buffer's length and byte; answers it, and reads back what was written.
-fn replay_on(sizes: &[u8], costs: &[u16], counts: &[u8], lits: &[u8], d: u32, s: u32, c: u32) {
-    let room = read_u16();
-    let mut sheet = io::large_buffer();
-    fill(&mut sheet, read_u8());
-    let n = answer(sizes, costs, counts, lits, &mut sheet[..room], d, s, c);
+fn replay_on<R: Read, W: Write>(
+    input: &mut R,
+    out: &mut W,
+    sizes: &[u8],
+    costs: &[u16],
+    counts: &[u8],
+    lits: &[u8],
+    d: u32,
+    s: u32,
+    c: u32,
+) -> io::Result<()> {
+    let room = read_u16(input)?;
+    let byte = read_u8(input)?;
+    let mut sheet = [0u8; 65536];
+    fill(&mut sheet, byte);
+    let n = answer(out, sizes, costs, counts, lits, &mut sheet[..room], d, s, c)?;
     if n > 0 {
-        read_back(&sheet[..n]);
+        read_back(out, &sheet[..n])?;
     }
+    Ok(())
+}
+
+// Reads a number of two bytes and as many bytes, and answers how many there were.
+fn read_bytes<R: Read>(input: &mut R, bytes: &mut [u8; 65536]) -> io::Result<usize>
+    ensures { IfOk result (λ n. n ≤ 65536) }
+{
+    let length = read_u16(input)?;
+    read_block(input, bytes, length)
 }
 
 // Reads one case and answers it.
-fn replay() {
-    let d = read_u32();
-    let s = read_u32();
-    let c = read_u32();
-    let mut sizes = io::large_buffer();
-    let sizes_len = read_block(&mut sizes, read_u16());
+fn replay<R: Read, W: Write>(input: &mut R, out: &mut W) -> io::Result<()> {
+    let d = read_u32(input)?;
+    let s = read_u32(input)?;
+    let c = read_u32(input)?;
+    let mut sizes = [0u8; 65536];
+    let sizes_len = read_bytes(input, &mut sizes)?;
     let mut costs = [0u16; 65536];
-    let costs_len = read_u16();
-    read_costs(&mut costs, costs_len);
-    let mut counts = io::large_buffer();
-    let counts_len = read_block(&mut counts, read_u16());
-    let mut lits = io::large_buffer();
-    let lits_len = read_block(&mut lits, read_u16());
+    let costs_len = read_u16(input)?;
+    read_costs(input, &mut costs, costs_len)?;
+    let mut counts = [0u8; 65536];
+    let counts_len = read_bytes(input, &mut counts)?;
+    let mut lits = [0u8; 65536];
+    let lits_len = read_bytes(input, &mut lits)?;
     replay_on(
+        input,
+        out,
         &sizes[..sizes_len],
         &costs[..costs_len],
         &counts[..counts_len],
@@ -152,14 +176,16 @@ fn replay() {
         d,
         s,
         c,
-    );
+    )
 }
 
 // Reads the number of cases, and replays each.
-fn main() {
-    let mut left = read_u16();
-    while left > 0 {
-        replay();
-        left -= 1;
+fn main(rt: HostRuntime) -> io::Result<()> {
+    let mut input = rt.stdin();
+    let mut out = rt.stdout();
+    let cases = read_u16(&mut input)?;
+    for _ in 0..cases {
+        replay(&mut input, &mut out)?;
     }
+    Ok(())
 }

@@ -17,15 +17,14 @@ pub fn mixed_all(hash: u32, bytes: &[u8]) -> u32
     ensures { result ≡ over mix hash bytes.now }
 {
     let mut h = hash;
-    let mut i = 0;
-    while i < bytes.len() {
-        h = mixed(h, bytes[i]);
-        i += 1;
+    for byte in bytes {
+        h = mixed(h, *byte);
     }
     h
 }
 
 // The checksum with a number of two bytes.
+#[tactic(auto, unfolding(crate::specs::Bytes::mix16))]
 pub fn mixed_u16(hash: u32, n: u16) -> u32
     ensures { result ≡ mix16 hash n }
 {
@@ -33,6 +32,7 @@ pub fn mixed_u16(hash: u32, n: u16) -> u32
 }
 
 // The checksum with a number of four bytes.
+#[tactic(auto, unfolding(crate::specs::Bytes::mix32))]
 pub fn mixed_u32(hash: u32, n: u32) -> u32
     ensures { result ≡ mix32 hash n }
 {
@@ -40,6 +40,7 @@ pub fn mixed_u32(hash: u32, n: u32) -> u32
 }
 
 // The checksum with a number of eight bytes.
+#[tactic(auto, unfolding(crate::specs::Bytes::mix64))]
 pub fn mixed_u64(hash: u32, n: u64) -> u32
     ensures { result ≡ mix64 hash n }
 {
@@ -54,10 +55,8 @@ pub fn mixed_all_u16(hash: u32, numbers: &[u16]) -> u32
     ensures { result ≡ over mix16 hash numbers.now }
 {
     let mut h = hash;
-    let mut i = 0;
-    while i < numbers.len() {
-        h = mixed_u16(h, numbers[i]);
-        i += 1;
+    for number in numbers {
+        h = mixed_u16(h, *number);
     }
     h
 }
@@ -67,10 +66,8 @@ pub fn mixed_all_u32(hash: u32, numbers: &[u32]) -> u32
     ensures { result ≡ over mix32 hash numbers.now }
 {
     let mut h = hash;
-    let mut i = 0;
-    while i < numbers.len() {
-        h = mixed_u32(h, numbers[i]);
-        i += 1;
+    for number in numbers {
+        h = mixed_u32(h, *number);
     }
     h
 }
@@ -80,10 +77,8 @@ pub fn mixed_all_u64(hash: u32, numbers: &[u64]) -> u32
     ensures { result ≡ over mix64 hash numbers.now }
 {
     let mut h = hash;
-    let mut i = 0;
-    while i < numbers.len() {
-        h = mixed_u64(h, numbers[i]);
-        i += 1;
+    for number in numbers {
+        h = mixed_u64(h, *number);
     }
     h
 }

@@ -1,64 +1,87 @@
-// Numbers, high byte first, and blocks from standard input. Past its end there are zeros, and blocks are short.
-ghost use Rattle.std.specs.Prelude.{◌≡◌, ◌<◌, ◌≤◌};
+// Numbers, high byte first, and blocks from a reader. Past its end there are zeros, and blocks are short.
+ghost use Rattle.std.specs.Prelude.{◌≡◌, ◌<◌, ◌≤◌, IfOk, length, min, take};
+ghost use Rattle.std.specs.Io.{ReadsAtMost};
+ghost use Rattle.std.specs.Io.KnownBytes.{Consumes, IsAtEnd};
 ghost use Rattle.vectors.specs.Bytes.{over, shift};
-ghost use Rattle.io.specs.Counts.{IsPrefixLen};
 
-use libc::STDIN_FILENO;
+use std::io;
+use std::io::Read;
 
 // The number that the bytes spell, high byte first; of more than eight bytes, the last eight.
 fn number(bytes: &[u8]) -> u64
     ensures { result ≡ over shift 0 bytes.now }
 {
     let mut n: u64 = 0;
-    let mut i = 0;
-    while i < bytes.len() {
-        n = n % 72057594037927936 * 256 + bytes[i] as u64;
-        i += 1;
+    for byte in bytes {
+        n = n % 72057594037927936 * 256 + *byte as u64;
     }
     n
 }
 
 // The lesser of two numbers.
 fn least(a: usize, b: usize) -> usize
-    ensures { (result ≤ a) × (result ≤ b) }
+    ensures { result ≡ min a b }
 {
     if a < b { a } else { b }
 }
 
+// Reads until buf is full or the input ends, and answers how many bytes it put at the front of buf.
+pub fn read_full<R: Read>(input: &mut R, buf: &mut [u8]) -> io::Result<usize>
+    ensures bound { ReadsAtMost result buf.new }
+    ensures bytes { IfOk result (λ n. Consumes (R.remaining input.old) (R.remaining input.new) (take n buf.new)) }
+    ensures end { IfOk result (λ n. n < length buf.new → IsAtEnd (R.remaining input.new)) }
+{
+    let mut done = 0;
+    for _turn in 0..buf.len() {
+        if done >= buf.len() {
+            break;
+        }
+        let n = input.read(&mut buf[done..])?;
+        if n == 0 {
+            break;
+        }
+        done += n;
+    }
+    Ok(done)
+}
+
 // Reads a byte.
-pub fn read_u8() -> u8 {
+pub fn read_u8<R: Read>(input: &mut R) -> io::Result<u8> {
     let mut byte = [0u8; 1];
-    io::read_full(STDIN_FILENO, &mut byte);
-    byte[0]
+    read_full(input, &mut byte)?;
+    Ok(byte[0])
 }
 
 // Reads a number of two bytes.
-pub fn read_u16() -> usize
-    ensures { result < 65536 }
+pub fn read_u16<R: Read>(input: &mut R) -> io::Result<usize>
+    ensures { IfOk result (λ n. n < 65536) }
 {
     let mut bytes = [0u8; 2];
-    io::read_full(STDIN_FILENO, &mut bytes);
-    (number(&bytes) % 65536) as usize
+    read_full(input, &mut bytes)?;
+    Ok((number(&bytes) % 65536) as usize)
 }
 
 // Reads a number of four bytes.
-pub fn read_u32() -> u32 {
+pub fn read_u32<R: Read>(input: &mut R) -> io::Result<u32> {
     let mut bytes = [0u8; 4];
-    io::read_full(STDIN_FILENO, &mut bytes);
-    (number(&bytes) % 4294967296) as u32
+    read_full(input, &mut bytes)?;
+    Ok((number(&bytes) % 4294967296) as u32)
 }
 
 // Reads a number of eight bytes.
-pub fn read_u64() -> u64 {
+pub fn read_u64<R: Read>(input: &mut R) -> io::Result<u64> {
     let mut bytes = [0u8; 8];
-    io::read_full(STDIN_FILENO, &mut bytes);
-    number(&bytes)
+    read_full(input, &mut bytes)?;
+    Ok(number(&bytes))
 }
 
 // Reads n bytes to the front of buf, or as many as it or the input has, and answers how many those are.
-pub fn read_block(buf: &mut [u8], n: usize) -> usize
-    ensures { IsPrefixLen result buf.new }
+pub fn read_block<R: Read>(input: &mut R, buf: &mut [u8], n: usize) -> io::Result<usize>
+    ensures bound { ReadsAtMost result buf.new }
+    ensures asked { IfOk result (λ k. k ≤ n) }
+    ensures bytes { IfOk result (λ k. Consumes (R.remaining input.old) (R.remaining input.new) (take k buf.new)) }
+    ensures end { IfOk result (λ k. k < n → k < length buf.new → IsAtEnd (R.remaining input.new)) }
 {
     let most = least(n, buf.len());
-    io::read_full(STDIN_FILENO, &mut buf[..most])
+    read_full(input, &mut buf[..most])
 }

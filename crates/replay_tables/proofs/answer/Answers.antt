@@ -1,0 +1,7 @@
+-- What was written is a sheet, and no sheet is longer than the longest.
+use Rattle.std.proofs.Common.{arith}
+use Rattle.theory.proofs.Longest.{longest-edition1}
+use Rattle.replay_tables.proofs.answer.Goals as goal
+
+pub returns-in_ok-print_hex8-in-Bytes : goal.returns-in_ok-print_hex8-in-Bytes
+returns-in_ok-print_hex8-in-Bytes g c = omega (arith, c.in-Bytes.ensures.right.most, longest-edition1)
