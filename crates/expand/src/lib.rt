@@ -2,6 +2,7 @@
 // by the first stored conflict that it does not resolve or by its lowest unassigned variable, or it is judged where it is
 // full.
 #![tactic(auto)]
+
 ghost use Rattle.std.specs.Prelude.{◌≡◌, false, List, ℕ, ◌*◌, ◌/◌, ◌≤◌, length, take};
 ghost use Rattle.std.proofs.Math.Option.{none, some};
 ghost use Rattle.model.specs.Lists.{All};

@@ -2,6 +2,7 @@
 // 1 to 7 (step 2 is its own, step 1 is in `offers`, the others in `steps`), and what is left in the buffers. It lists codes;
 // the figures that stand beside them are functions of the codes, and a call fills them in when the run is over.
 #![tactic(auto)]
+
 ghost use Rattle.std.specs.Prelude.{◌≡◌, true, List, ℕ, ◌*◌, ◌/◌, ◌≤◌, length};
 ghost use Rattle.model.specs.Sheet.{Plant, edition_of, decision_sizes};
 ghost use Rattle.model.specs.Assignment.{Assignment};

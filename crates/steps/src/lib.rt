@@ -1,6 +1,7 @@
 // Steps 3 to 7 over decoded tables, in lent buffers. A step removes a node from the queue and expands it; `run` goes on
 // until a step ends it. Step 1 is in `offers`, step 2, the start, and the call on a sheet are in `listing`.
 #![tactic(auto)]
+
 ghost use Rattle.std.specs.Prelude.{◌≡◌, ℕ, ◌/◌, ◌<◌, length};
 ghost use Rattle.model.specs.Sheet.{decision_sizes};
 ghost use Rattle.model.specs.Listing.{step, run};

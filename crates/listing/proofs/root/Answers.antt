@@ -1,0 +1,7 @@
+-- `root` meets its contract. Assumes nothing.
+use borrow.Author.Rules.{rules}
+use Rattle.listing.proofs.Starting.{root_is}
+use Rattle.listing.proofs.root.Goals as goal
+
+pub returns : goal.returns
+returns c p sizes counts lits t ok e = root_is c.args.weighed t ok _ _ c.figure.ensures e

@@ -1,0 +1,26 @@
+-- `run` meets its contract. The loop's invariant: lent slices keep their lengths, and the run from the start ends as the run from here. The measure is the weight of the queue, read off its words. Assumes nothing.
+use mathlib.Core.Path.{◌≡◌, refl, ◌∙◌}
+use mathlib.Core.List.{List}
+use Prim.Native.Nat.{ℕ, suc, ◌/◌, ◌<◌}
+use native.Mathlib.Omega.{arith}
+use borrow.Author.Rules.{rules}
+use lib.ListN.{length, take}
+use Rattle.plan.specs.Plans.{plan_words}
+use Rattle.model.specs.Sheet.{decision_sizes}
+use Rattle.model.specs.Listing.{Next, step, run}
+use Rattle.theory.specs.Nodes.{weights}
+use Rattle.judge.specs.declared.Progress.{Progress}
+use Rattle.judge.specs.declared.Next.{Next as After}
+use Rattle.judge.specs.Standing.{order_in, NextIs}
+use Rattle.steps.specs.Run.{Steps}
+use Rattle.steps.proofs.Running.{queue_weight, Reached, reached-start, reached-steps, reached-end, reached-next}
+use Rattle.steps.proofs.run.Given as goal
+
+abbrev pub invariant-loop-ending : goal.invariant-loop-ending
+invariant-loop-ending l =
+    (length l.plan ≡ plan_words) × (length l.codes ≡ length l.initial.codes) × (length l.values ≡ length l.initial.values) × (length l.queue ≡ length l.initial.queue) × (length l.store ≡ length l.initial.store)
+    × ((t : Steps l.d l.sizes l.prices l.counts l.lits l.sat l.uses l.initial.plan l.weighed l.preferred l.k l.limit l.initial.codes l.initial.values l.initial.queue l.initial.store l.initial.g) (fuel : ℕ) → weights (decision_sizes t.question.plant) t.state.queue < fuel
+    → Reached t.question l.k l.limit (run t.question.plant (order_in t.question) l.k (length l.initial.queue / 2) (length l.initial.store / 2) l.limit fuel t.state) l.queue l.store l.codes l.values l.g)
+
+abbrev pub decreases-loop-ending : goal.decreases-loop-ending
+decreases-loop-ending l = queue_weight l.weighed (take l.d l.sizes) l.g.queued l.queue
