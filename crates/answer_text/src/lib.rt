@@ -1,6 +1,7 @@
 // The text that the program `leading` prints for a sheet, made in a lent buffer: a line for each of the sixteen leading
 // states of its plant, then how the run ended; or the number of the refusal.
 #![tactic(auto)]
+
 ghost use Rattle.std.specs.Prelude.{◌+◌, ◌≤◌, ◌≡◌, length};
 ghost use Rattle.model.specs.Text.{ending_word, leading_text};
 ghost use Rattle.theory.specs.Puts.{written, Puts};

@@ -1,6 +1,7 @@
 // The listing call on a sheet and lent buffers, whatever these are: the host's refusals, the sheet's, or the listing of its
 // plant.
 #![tactic(auto)]
+
 ghost use Rattle.std.specs.Prelude.{◌≡◌, length};
 ghost use Rattle.model.specs.Sheet.{edition1};
 ghost use Rattle.model.specs.Calls.{Buffers, first_given, host_grounds, listing_with, listing_call};

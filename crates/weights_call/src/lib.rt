@@ -1,6 +1,7 @@
 // The listing call on a sheet of edition 2 and lent buffers, whatever these are: what `listing_call` does for a sheet with
 // costs, for one with weights. The products of the listed states stand where costs do, the greatest first.
 #![tactic(auto)]
+
 ghost use Rattle.std.specs.Prelude.{◌≡◌};
 ghost use Rattle.model.specs.Sheet.{edition2};
 ghost use Rattle.model.specs.Calls.{Buffers, listing_with, weights_call};

@@ -34,5 +34,4 @@ finish-requires c =
 pub returns : goal.returns
 returns c p t ok =
     let h = c.listing-f.ensures (lists_of c.args.weighed t ok c.prepare.ensures plan_long (c.preferred-preferred.ensures p _ _ t) c.requires.1) in
-    let kept = c.listing-f.auto.queue in
-    finished_ran c.args.weighed p c.args.k _ _ _ _ h kept.0 kept.1.0 c.finish.ensures
+    finished_ran c.args.weighed p c.args.k _ _ _ _ h c.listing-f.auto.queue c.listing-f.auto.store c.finish.ensures
