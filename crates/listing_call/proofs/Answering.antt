@@ -100,11 +100,11 @@ module _ {w : Bool} {sheet : List ℕ} {k held limit : ℕ} {short : Bool} {figu
   pub listed-most : r.counts.listed ≤ k
   listed-most = omega (arith, listed-is, ap (λ (s : State). length s.listed) done.1.1, done.1.2)
 
-  ground : 0 ≡ ground_number (first_given (host_grounds k b held short))
-  ground = rw (t.fit costs long) refl
+  no_ground_given : 0 ≡ ground_number (first_given (host_grounds k b held short))
+  no_ground_given = rw (t.fit costs long) refl
 
   pub costs-places : r.counts.listed ≤ length costs
-  costs-places = omega (arith, listed-most, figures-room k b held short ground)
+  costs-places = omega (arith, listed-most, figures-room k b held short no_ground_given)
 
   -- they are within the domains
   all_fit : All (Fits (decision_sizes p)) listed
@@ -116,7 +116,7 @@ module _ {w : Bool} {sheet : List ℕ} {k held limit : ℕ} {short : Bool} {figu
 
   pub codes-places : r.counts.listed ≤ length codes'
   codes-places =
-      let room = room_of k b held short ground in
+      let room = room_of k b held short no_ground_given in
       let same : length codes' ≡ length codes = ap length t.ran.codes-are ∙ filled_length (map code listed) codes (omega (arith, length-map listed code, listed-is, listed-most, room.codes-room)) in
       omega (arith, same, listed-most, room.codes-room)
 

@@ -30,8 +30,8 @@ unfoldable pub first_given : List Ground → Option ℕ
 first_given [] = none
 first_given (g ∷ gs) = elim g.given [ true ↦ some g.number | false ↦ first_given gs ]
 
-abbrev pub ground : Bool → ℕ → Ground
-ground given number = record { given = given; number = number }
+abbrev pub ground_if : Bool → ℕ → Ground
+ground_if given number = record { given = given; number = number }
 
 -- ---- the values shown
 
@@ -53,7 +53,7 @@ shown_by (Tested.spent t) = replicate state_bytes 0
 
 -- 14: a mask bit beyond D. 15: a value outside its domain or a nonzero unused nibble.
 unfoldable pub word_grounds : List ℕ → ℕ → ℕ → List Ground
-word_grounds domains mask values = ground (not (mask_fits domains mask)) 14 ∷ ground (not (values_fit domains mask values)) 15 ∷ []
+word_grounds domains mask values = ground_if (not (mask_fits domains mask)) 14 ∷ ground_if (not (values_fit domains mask values)) 15 ∷ []
 
 -- a call on a sheet of either edition and two words: the sheet's refusal, then the words', then what the assignment answers
 pub data Answered (A : Type 0) : Type 0 where
@@ -125,11 +125,11 @@ most_words = 8192
 -- the host's refusals before the sheet, in this order, 19 right after 2; `result_short`: in the export, fewer than six result words
 unfoldable pub host_grounds : ℕ → Buffers → ℕ → Bool → List Ground
 host_grounds k b held result_short =
-    ground (not (leb 1 k && leb k most_listed)) 1
-    ∷ ground (ltb (length b.codes) k || ltb (length b.costs) k || result_short) 2
-    ∷ ground (ltb (length b.values) (state_bytes * k)) 19
-    ∷ ground (odd (length b.queue) || ltb (length b.queue) 2 || ltb most_words (length b.queue)) 3
-    ∷ ground (odd (length b.store) || ltb most_words (length b.store) || ltb (length b.store / 2) held) 4
+    ground_if (not (leb 1 k && leb k most_listed)) 1
+    ∷ ground_if (ltb (length b.codes) k || ltb (length b.costs) k || result_short) 2
+    ∷ ground_if (ltb (length b.values) (state_bytes * k)) 19
+    ∷ ground_if (odd (length b.queue) || ltb (length b.queue) 2 || ltb most_words (length b.queue)) 3
+    ∷ ground_if (odd (length b.store) || ltb most_words (length b.store) || ltb (length b.store / 2) held) 4
     ∷ []
 
 -- the first n entries of a store's words

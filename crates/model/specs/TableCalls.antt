@@ -3,7 +3,7 @@ use Rattle.std.specs.Prelude.{Bool, not, ◌&&◌, List, [], ◌∷◌, ℕ, ◌
 use Rattle.std.proofs.Math.Option.{none, some}
 use Rattle.model.specs.Lists.{all_of, in_turn, filled}
 use Rattle.model.specs.Sheet.{Literal, Read, got, Edition, edition1, decisions_allowed, read_sheet}
-use Rattle.model.specs.Calls.{Refusal, by_host, by_author, refusal_number, Ground, ground, first_given, Answered, refused, answered}
+use Rattle.model.specs.Calls.{Refusal, by_host, by_author, refusal_number, Ground, ground_if, first_given, Answered, refused, answered}
 use Rattle.model.specs.Tables.{Tables, total, literals, plant_of, tables_of, sheet_of}
 
 -- ---- a call that only writes out bytes
@@ -37,24 +37,24 @@ fields_fit t = all_of (λ n. leb 1 n && leb n 16) t.sizes && all_of (λ n. leb n
 
 -- the host's, first. 16: tables whose lengths disagree with the numbers
 unfoldable pub length_grounds : Tables → List Ground
-length_grounds t = ground (not (lengths_agree t)) 16 ∷ []
+length_grounds t = ground_if (not (lengths_agree t)) 16 ∷ []
 
 -- of a literal, over domains of these sizes. 10: its variable is absent. 11: its value is outside the domain.
 unfoldable pub literal_grounds : List ℕ → Literal → List Ground
-literal_grounds domains l = ground (not (ltb l.variable (length domains))) 10 ∷ ground (not (ltb l.value (get_or domains l.variable 0))) 11 ∷ []
+literal_grounds domains l = ground_if (not (ltb l.variable (length domains))) 10 ∷ ground_if (not (ltb l.value (get_or domains l.variable 0))) 11 ∷ []
 
 -- the author's, then. 17: a domain size outside 1 to 16, a clause of more than 15 literals or a sign above 1. 7, 8, 9: the numbers of decision variables, of state variables and of clauses. 10 and 11: literal by literal.
 unfoldable pub table_grounds : Edition → Tables → List Ground
 table_grounds e t =
-    ground (not (fields_fit t)) 17
-    ∷ ground (not (decisions_allowed e t.decisions)) 7
-    ∷ ground (not (leb t.states 32)) 8
-    ∷ ground (not (leb t.clauses 512)) 9
+    ground_if (not (fields_fit t)) 17
+    ∷ ground_if (not (decisions_allowed e t.decisions)) 7
+    ∷ ground_if (not (leb t.states 32)) 8
+    ∷ ground_if (not (leb t.clauses 512)) 9
     ∷ in_turn (literal_grounds t.sizes) (literals t.literals)
 
 -- the host's, last. 18: a buffer shorter than the sheet
 unfoldable pub room_grounds : List ℕ → List ℕ → List Ground
-room_grounds sheet buffer = ground (ltb (length buffer) (length sheet)) 18 ∷ []
+room_grounds sheet buffer = ground_if (ltb (length buffer) (length sheet)) 18 ∷ []
 
 -- a sheet into a lent buffer
 unfoldable pub write_sheet : List ℕ → List ℕ → Wrote

@@ -13,7 +13,7 @@ use borrow.Author.Tests.{ltb-true, leb-true, eqb-true, lt-ltb, le-leb, eq-eqb, n
 use Rattle.model.specs.Lists.{All, all_of, in_turn, filled}
 use Rattle.model.specs.Digits.{digits}
 use Rattle.model.specs.Sheet.{Literal, Plant, sizes, Edition, decisions_allowed}
-use Rattle.model.specs.Calls.{Ground, ground, first_given}
+use Rattle.model.specs.Calls.{Ground, ground_if, first_given}
 use Rattle.model.specs.Tables.{Tables, total, cost_rows, literals, clauses, plant_of, literal_bytes, tables_of, decision_written, state_written, literal_written, clause_written, plant_written}
 use Rattle.model.specs.TableCalls.{lengths_agree, fields_fit, literal_grounds, table_grounds, filled_tables, front_tables}
 use Rattle.theory.specs.Digits.{Below}
@@ -257,12 +257,12 @@ module _ {A : Type 0} (test : A → Bool) where
   pass_all (x ∷ xs) a = rw (all_of, a.0) (pass_all xs a.1)
 
 -- no ground is given: not the first, nor one of the others
-pub none-given : (given : Bool) (n : ℕ) (gs : List Ground) → first_given (ground given n ∷ gs) ≡ none → (given ≡ false) × (first_given gs ≡ none)
+pub none-given : (given : Bool) (n : ℕ) (gs : List Ground) → first_given (ground_if given n ∷ gs) ≡ none → (given ≡ false) × (first_given gs ≡ none)
 unfolding first_given
 none-given true n gs h = absurd (let z : ◌≡◌ {A = ℕ} 0 1 = cc in omega arith)
 none-given false n gs h = (refl, h)
 
-pub given-none : (given : Bool) (n : ℕ) (gs : List Ground) → given ≡ false → first_given gs ≡ none → first_given (ground given n ∷ gs) ≡ none
+pub given-none : (given : Bool) (n : ℕ) (gs : List Ground) → given ≡ false → first_given gs ≡ none → first_given (ground_if given n ∷ gs) ≡ none
 unfolding first_given
 given-none true n gs e h = absurd (let z : ◌≡◌ {A = ℕ} 0 1 = cc in omega arith)
 given-none false n gs e h = h

@@ -30,32 +30,32 @@ returns-then-ground-ne0 c =
     }
 
 pub overflow_add-n : goal.overflow_add-n
-overflow_add-n c = let o = (let r = c.read in
-    opened _ _ _ _ _ _ _ r.ensures c.in-Counts.is r.auto.sizes (r.auto.costs ∙ c.requires) r.auto.counts r.auto.lits) in record { fits = omega (arith, o.variables, c.read.auto.sizes) }
+overflow_add-n c = let o = let r = c.read in
+    opened _ _ _ _ _ _ _ r.ensures c.in-Counts.is r.auto.sizes (r.auto.costs ∙ c.requires) r.auto.counts r.auto.lits in record { fits = omega (arith, o.variables, c.read.auto.sizes) }
 
 pub slice_bounds-sizes-end : goal.slice_bounds-sizes-end
-slice_bounds-sizes-end c = ((let r = c.read in
-    opened _ _ _ _ _ _ _ r.ensures c.in-Counts.is r.auto.sizes (r.auto.costs ∙ c.requires) r.auto.counts r.auto.lits)).variables
+slice_bounds-sizes-end c = (let r = c.read in
+    opened _ _ _ _ _ _ _ r.ensures c.in-Counts.is r.auto.sizes (r.auto.costs ∙ c.requires) r.auto.counts r.auto.lits).variables
 
 pub slice_bounds-list_tables-end : goal.slice_bounds-list_tables-end
-slice_bounds-list_tables-end c = sym (length-take-le _ _ ((let r = c.read in
-    opened _ _ _ _ _ _ _ r.ensures c.in-Counts.is r.auto.sizes (r.auto.costs ∙ c.requires) r.auto.counts r.auto.lits)).variables)
+slice_bounds-list_tables-end c = sym (length-take-le _ _ (let r = c.read in
+    opened _ _ _ _ _ _ _ r.ensures c.in-Counts.is r.auto.sizes (r.auto.costs ∙ c.requires) r.auto.counts r.auto.lits).variables)
 
 pub slice_bounds-counts-end : goal.slice_bounds-counts-end
-slice_bounds-counts-end c = ((let r = c.read in
-    opened _ _ _ _ _ _ _ r.ensures c.in-Counts.is r.auto.sizes (r.auto.costs ∙ c.requires) r.auto.counts r.auto.lits)).clauses
+slice_bounds-counts-end c = (let r = c.read in
+    opened _ _ _ _ _ _ _ r.ensures c.in-Counts.is r.auto.sizes (r.auto.costs ∙ c.requires) r.auto.counts r.auto.lits).clauses
 
 pub slice_bounds-list_tables-end-in-Counts : goal.slice_bounds-list_tables-end-in-Counts
-slice_bounds-list_tables-end-in-Counts c = sym (length-take-le _ _ ((let r = c.read in
-    opened _ _ _ _ _ _ _ r.ensures c.in-Counts.is r.auto.sizes (r.auto.costs ∙ c.requires) r.auto.counts r.auto.lits)).clauses)
+slice_bounds-list_tables-end-in-Counts c = sym (length-take-le _ _ (let r = c.read in
+    opened _ _ _ _ _ _ _ r.ensures c.in-Counts.is r.auto.sizes (r.auto.costs ∙ c.requires) r.auto.counts r.auto.lits).clauses)
 
 pub list_tables-ran-requires : goal.list_tables-ran-requires
 list_tables-ran-requires c =
     let s = c.args in
     let costs : List ℕ = replicate s.figures 0 in
-    let o = (let r = c.read in
-    opened _ _ _ _ _ _ _ r.ensures c.in-Counts.is r.auto.sizes (r.auto.costs ∙ c.requires) r.auto.counts r.auto.lits) in
-    ((o.plant, o.tabled, o.accepted), room_of s.k (buffers s.codes.now costs s.values.now s.queue.now s.store.now) s.held s.short (ground c costs (length-replicate s.figures 0)))
+    let o = let r = c.read in
+    opened _ _ _ _ _ _ _ r.ensures c.in-Counts.is r.auto.sizes (r.auto.costs ∙ c.requires) r.auto.counts r.auto.lits in
+    ((o.plant, o.tabled, o.accepted), room_of s.k (buffers s.codes.now costs s.values.now s.queue.now s.store.now) s.held s.short (sym c.if-ground-ne0.false ∙ c.unfit-ground.ensures (buffers s.codes.now costs s.values.now s.queue.now s.store.now) refl (length-replicate s.figures 0) refl refl refl))
 
 pub returns-in-Refused : goal.returns-in-Refused
 returns-in-Refused c =
@@ -66,20 +66,20 @@ returns-in-Refused c =
       queue-kept = refl;
       store_kept = refl;
       refuses = λ costs e.
-          author-refused s.weighed s.sheet.now s.k (buffers s.codes.now costs s.values.now s.queue.now s.store.now) s.held s.limit s.short (ground c costs e)
+          author-refused s.weighed s.sheet.now s.k (buffers s.codes.now costs s.values.now s.queue.now s.store.now) s.held s.limit s.short (sym c.if-ground-ne0.false ∙ c.unfit-ground.ensures (buffers s.codes.now costs s.values.now s.queue.now s.store.now) refl e refl refl refl)
           (refused-by _ _ _ _ _ _ c.in-Refused.is c.read.ensures.0);
     }
 
 pub returns-in-Counts : goal.returns-in-Counts
 returns-in-Counts c =
     let s = c.args in
-    let o = (let r = c.read in
-    opened _ _ _ _ _ _ _ r.ensures c.in-Counts.is r.auto.sizes (r.auto.costs ∙ c.requires) r.auto.counts r.auto.lits) in
+    let o = let r = c.read in
+    opened _ _ _ _ _ _ _ r.ensures c.in-Counts.is r.auto.sizes (r.auto.costs ∙ c.requires) r.auto.counts r.auto.lits in
     record {
       plant = o.plant;
       end = _;
       says = o.read;
-      fit = λ costs e. fit s.k (buffers s.codes.now costs s.values.now s.queue.now s.store.now) s.held s.short (ground c costs e);
+      fit = λ costs e. fit s.k (buffers s.codes.now costs s.values.now s.queue.now s.store.now) s.held s.short (sym c.if-ground-ne0.false ∙ c.unfit-ground.ensures (buffers s.codes.now costs s.values.now s.queue.now s.store.now) refl e refl refl refl);
       has-rows = tabled-rows o.tabled;
       count = tabled-count o.tabled;
       long = c.read.auto.costs ∙ c.requires;
