@@ -20,6 +20,5 @@ pub mod Exports
 pub mod Parts
 pub mod Weights
 pub mod WeightRefusals
-pub mod Departures
 pub mod TableExamples
 pub mod TextExamples

@@ -1,6 +1,6 @@
 -- Scans: of the members of a list for one that passes a test, one, four or eight further and at the end; and of the conflicts from a place on for one that is unresolved. Assumes nothing.
 use mathlib.Core.Path.{◌≡◌, refl, sym, ap, ◌∙◌}
-use mathlib.Core.Bool.{Bool, true, false, ◌||◌, or_assoc, or-false, or_true}
+use mathlib.Core.Bool.{Bool, true, false, ◌||◌, or_assoc, or-false, or-true}
 use mathlib.Core.Option.{none, some}
 use mathlib.Core.List.{List, [], ◌∷◌}
 use Prim.Native.Nat.{ℕ, suc, ◌+◌, ◌≤◌, ◌<◌}
@@ -62,7 +62,7 @@ module _ {A : Type 0} (test : A → Bool) where
 
   -- where the member at a place passes, one does
   pub any_here : (xs : List A) (x : A) (i : ℕ) → i < length xs → test (get_or xs i x) ≡ true → any_of test xs ≡ true
-  any_here xs x i h e = any_split i xs ∙ rw (any_split 1 (drop i xs), any_one xs x i h, e) (or_true (any_of test (take i xs)))
+  any_here xs x i h e = any_split i xs ∙ rw (any_split 1 (drop i xs), any_one xs x i h, e) (or-true (any_of test (take i xs)))
 
   -- where none of the first i passes, and these are all, none does
   pub none_at_all : (xs : List A) (i : ℕ) → length xs ≤ i → any_of test (take i xs) ≡ false → any_of test xs ≡ false

@@ -7,7 +7,6 @@ pub mod Children
 pub mod Containment
 pub mod Corollaries
 pub mod Decimal
-pub mod Departures
 pub mod Demand3
 pub mod Descent
 pub mod Digits

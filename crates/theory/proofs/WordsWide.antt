@@ -25,7 +25,7 @@ scaled b (suc k) c [] = sym (zero-mul c)
 scaled b (suc k) c (d ∷ ds) = rw (scaled b k c ds, add-mul (d * b ^ k) (number b k ds) c, mul_right_comm d c (b ^ k))
 
 -- as many equal numbers as members
-pub alike : (c k : ℕ) (ys : List ℕ) → length ys ≡ k → replicate k c ≡ map (λ y. c) ys
+alike : (c k : ℕ) (ys : List ℕ) → length ys ≡ k → replicate k c ≡ map (λ y. c) ys
 alike c zero [] e = refl
 alike c zero (y ∷ ys) e = absurd (omega arith)
 alike c (suc k) [] e = absurd (omega arith)

@@ -8,7 +8,7 @@ ghost use Rattle.std.proofs.Math.Option.{none};
 ghost use Rattle.model.specs.Digits.{digits};
 ghost use Rattle.model.specs.Assignment.{Assignment, assignment_of, is_some, is_full, all_zero, nibble_fits, mask_fits, values_fit, well_formed};
 ghost use Rattle.model.specs.Conflict.{manifests, resolves};
-ghost use Rattle.model.specs.Order.{cost, departures};
+ghost use Rattle.model.specs.Order.{cost};
 ghost use Rattle.theory.specs.Words.{Words, byte, wide_of, Wide, sixteens};
 
 use limits::{DECISIONS, UNASSIGNED, VALUES};
@@ -176,19 +176,6 @@ pub fn digit_at(code: u64, v: usize) -> usize
     ensures { (result ≡ get_or (digits 16 16 code) v 0) × (result < 16) }
 {
     nibble_at(code, v) as usize
-}
-
-// The lower three bits of each nibble, and its top bit.
-const NIBBLE_LOW: u64 = 0x7777_7777_7777_7777;
-
-const NIBBLE_TOP: u64 = 0x8888_8888_8888_8888;
-
-// The departures of a code: how many of its nibbles are not 0. Where one of a nibble's lower three bits is set, 7 added to them reaches its top bit.
-pub fn departures(code: u64) -> u32
-    ensures { (result ≡ departures (digits 16 16 code)) × (result ≤ 16) }
-{
-    let reached = (code & NIBBLE_LOW) + NIBBLE_LOW;
-    u64::count_ones((reached | code) & NIBBLE_TOP)
 }
 
 // A table's cost as a number that sums can be made of.
