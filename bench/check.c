@@ -276,34 +276,8 @@ static void lend(const struct lent *lengths, const uint64_t *given, size_t given
         memcpy(lent.store, given, given_len * sizeof *given);
 }
 
-static unsigned departures(uint64_t code)
-{
-    unsigned count = 0;
-    for (; code; code >>= 4)
-        count += (code & 15) != 0;
-    return count;
-}
-
-/* Whether the state at place i comes before the next: by cost, departures, code. */
-static bool next_comes_later(const struct lent *l, size_t i)
-{
-    unsigned own = departures(l->codes[i]), other = departures(l->codes[i + 1]);
-    if (l->costs[i] != l->costs[i + 1])
-        return l->costs[i] < l->costs[i + 1];
-    return own != other ? own < other : l->codes[i] < l->codes[i + 1];
-}
-
-static bool in_order(const struct lent *l)
-{
-    bool so_far = true;
-    for (size_t i = 0; i + 1 < l->result[1]; i++)
-        so_far &= next_comes_later(l, i);
-    return so_far;
-}
-
 /* All implementations against the line, or against the first of them; every
- * lent word and byte and the spare ones against the first's. A refusal changes none,
- * and a list is in order. */
+ * lent word and byte and the spare ones against the first's. A refusal changes none. */
 static void check_listing(const char *where, struct bytes sheet, struct settings settings,
                           const struct lent *lengths, const uint64_t *given, size_t given_len,
                           const char *wanted)
@@ -321,8 +295,6 @@ static void check_listing(const char *where, struct bytes sheet, struct settings
             memcpy(&first_lent, &lent, sizeof lent);
         }
         compare(where, own->name, got, wanted ? wanted : first);
-        if (!refusal && !in_order(&lent))
-            differ(where, own->name, "a list out of order", "cost, departures, code");
         if (i == 0 && refusal)
             lend(lengths, given, given_len);
         if (memcmp(&first_lent, &lent, sizeof lent))

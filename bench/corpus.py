@@ -248,36 +248,6 @@ def learning_plant():
     return Plant(costs, (), tuple(clauses))
 
 
-# ---- ties ------------------------------------------------------------------
-
-SELECTOR_CLUTCH_PUMP = ((0, 4), (0, 2), (0, 2))
-
-
-def tied_plant(seed, parts, nogoods):
-    """Parts of two to four states at few different costs, 0 or another state
-    the cheapest, and random nogoods. Most states share their cost with many
-    others, and of these many differ in their departures."""
-    rng = Random(seed)
-    costs = []
-    for _ in range(parts):
-        own = [0] + [rng.choice((0, 2, 2, 4, 6)) for _ in range(rng.randint(1, 3))]
-        costs.append(tuple(rng.sample(own, len(own))))
-    clauses = []
-    for _ in range(nogoods):
-        variables = rng.sample(range(parts), 3)
-        nogood = (Literal(v, UNEQUAL, rng.randrange(len(costs[v]))) for v in variables)
-        clauses.append(tuple(nogood))
-    return Plant(tuple(costs), (), tuple(clauses))
-
-
-def departing_plant():
-    """All 16 parts are out of state 0 in the cheapest state. One of them has a
-    third state that costs as much as state 0 does, so that states of 16
-    departures are tied with states of fewer. No clauses."""
-    costs = [(2, 0) if v % 4 else (1, 0) for v in range(15)] + [(1, 0, 1)]
-    return Plant(tuple(costs), (), ())
-
-
 # ---- all of it -------------------------------------------------------------
 
 
@@ -298,10 +268,6 @@ def corpus():
         yield f"sieve-{entries}", full_plant(sizes, FORBIDDEN), text
     yield "store-4096", store_plant(), "three forbidden states; 4,096 conflicts are offered"
     yield "learn-4096", learning_plant(), "sums modulo 16; a run learns 4,096 conflicts"
-    text = "selector, clutch and pump, no clauses; the selector's fault costs what both others do"
-    yield "tied-3", Plant(SELECTOR_CLUTCH_PUMP, (), ()), text
-    yield "tied-12", tied_plant(1, 12, 12), "few different costs, random nogoods"
-    yield "tied-16", departing_plant(), "no clauses; in the cheapest state no part is in state 0"
 
 
 def main():

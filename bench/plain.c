@@ -1,8 +1,8 @@
 /* An independent plain implementation of docs/SPECIFICATION.md, word for word:
  * every clause is scanned after each trial, the queue is an unordered array
  * searched from end to end for the node whose best state comes first (a node
- * carries its best state's cost, departures and code), the store is scanned
- * variable by variable. */
+ * carries its best state's cost and code), the store is scanned variable by
+ * variable. */
 #include "plain.h"
 
 #include <stdbool.h>
@@ -26,7 +26,7 @@ uint64_t counted_removals, counted_looks;
 
 struct node {
     uint64_t mask, values;
-    uint32_t cost, departures; /* of the best state, as is the code */
+    uint32_t cost; /* of the best state, as is the code */
     uint64_t code;
 };
 
@@ -54,24 +54,19 @@ static unsigned cheapest(const struct plant *p, unsigned v)
 
 static struct node node_of(const struct plant *p, uint64_t mask, uint64_t values)
 {
-    struct node node = {mask, values, 0, 0, 0};
+    struct node node = {mask, values, 0, 0};
     uint64_t all = 0;
     for (unsigned v = 0; v < p->decisions; v++) {
         unsigned x = assigned(mask, v) ? value_of(values, v) : cheapest(p, v);
         assign(&all, &node.code, v, x);
         node.cost += p->costs[v][x];
-        node.departures += x != 0;
     }
     return node;
 }
 
 static bool comes_before(const struct node *a, const struct node *b)
 {
-    if (a->cost != b->cost)
-        return a->cost < b->cost;
-    if (a->departures != b->departures)
-        return a->departures < b->departures;
-    return a->code < b->code;
+    return a->cost < b->cost || (a->cost == b->cost && a->code < b->code);
 }
 
 static bool contains(const struct plant *p, uint64_t mask, uint64_t values,

@@ -26,94 +26,96 @@ struct run {
     uint32_t k, listed, tested, learned, unkept;
 };
 
-static bool manifests_a_stored(const struct run *r, struct node n)
+static bool manifests_a_stored(const struct run *r, struct entry e)
 {
-    return manifests_any(n.code, widen(n.mask), r->store, r->stored);
+    return manifests_any(e.code, widen(mask_of(e)), r->store, r->stored);
 }
 
 /* The place of the first stored conflict that is not resolved, or `stored`. */
-static size_t first_unresolved(const struct run *r, struct node n)
+static size_t first_unresolved(const struct run *r, struct entry e)
 {
-    uint64_t wide = widen(n.mask);
+    uint64_t wide = widen(mask_of(e));
     size_t i = 0;
-    while (i < r->stored && resolves(n.code, wide, &r->store[2 * i]))
+    while (i < r->stored && resolves(e.code, wide, &r->store[2 * i]))
         i++;
     return i;
 }
 
 /* The node with an unassigned variable given a value. */
-static struct node given(const struct run *r, struct node n, size_t v, size_t x)
+static struct entry given(const struct run *r, struct entry e, size_t v, size_t x)
 {
     const uint16_t *costs = r->search.tables->costs[v];
-    return (struct node){n.mask | bit(v), n.code ^ nibble(v, r->cheapest[v] ^ x),
-                         n.cost - costs[r->cheapest[v]] + costs[x]};
+    uint64_t cost = cost_of(e) - costs[r->cheapest[v]] + costs[x];
+    uint64_t mask = mask_of(e) | bit(v);
+    uint64_t code = e.code ^ nibble(v, r->cheapest[v] ^ x);
+    return (struct entry){cost << 16 | mask >> 48, code};
 }
 
 /* The empty assignment; finds the cheapest values as it goes. */
-static struct node root(struct run *r)
+static struct entry root(struct run *r)
 {
     const struct tables *t = r->search.tables;
-    struct node n = {0, 0, 0};
+    struct entry e = {0, 0};
     for (size_t v = 0; v < t->decisions; v++) {
         size_t best = 0;
         for (size_t x = 1; x < t->sizes[v]; x++)
             if (t->costs[v][x] < t->costs[v][best])
                 best = x;
         r->cheapest[v] = (uint8_t)best;
-        n.cost += t->costs[v][best];
-        n.code |= nibble(v, best);
+        e.key += (uint64_t)t->costs[v][best] << 16;
+        e.code |= nibble(v, best);
     }
-    return n;
+    return e;
 }
 
 /* Step 6 for one child: puts it into the queue, unless it manifests a stored
  * conflict. */
-static enum ending put_child(struct run *r, struct node n, size_t v, size_t x)
+static enum ending put_child(struct run *r, struct entry e, size_t v, size_t x)
 {
-    struct node child = given(r, n, v, x);
+    struct entry child = given(r, e, v, x);
     if (manifests_a_stored(r, child))
         return GOING_ON;
     if (r->queued == r->queue_entries)
         return FULL;
-    push(r->queue, r->queued++, entry_of(child));
+    push(r->queue, r->queued++, child);
     return GOING_ON;
 }
 
 /* The variable at each value but one. */
-static enum ending put_values(struct run *r, struct node n, size_t v, size_t but)
+static enum ending put_values(struct run *r, struct entry e, size_t v, size_t but)
 {
     for (size_t x = 0; x < r->search.tables->sizes[v]; x++)
-        if (x != but && put_child(r, n, v, x) == FULL)
+        if (x != but && put_child(r, e, v, x) == FULL)
             return FULL;
     return GOING_ON;
 }
 
 /* Step 4. */
-static enum ending put_resolving(struct run *r, struct node n, const uint64_t *conflict)
+static enum ending put_resolving(struct run *r, struct entry e, const uint64_t *conflict)
 {
-    uint64_t open = narrow(conflict[0]) & ~n.mask;
+    uint64_t open = narrow(conflict[0]) & ~mask_of(e);
     while (open) {
         size_t v = (size_t)__builtin_clzll(open);
         size_t own = conflict[1] >> (60 - 4 * v) & 15;
-        if (put_values(r, n, v, own) == FULL)
+        if (put_values(r, e, v, own) == FULL)
             return FULL;
-        n = given(r, n, v, own);
+        e = given(r, e, v, own);
         open ^= bit(v);
     }
     return GOING_ON;
 }
 
 /* Step 5. */
-static enum ending put_branching(struct run *r, struct node n)
+static enum ending put_branching(struct run *r, struct entry e)
 {
-    return put_values(r, n, (size_t)__builtin_clzll(~n.mask), VALUES_MOST);
+    return put_values(r, e, (size_t)__builtin_clzll(~mask_of(e)), VALUES_MOST);
 }
 
 /* Step 7 on an inconsistent full node, the store not full. The node resolved
  * every stored conflict, so the learned one contains none. */
-static enum ending learn(struct run *r, struct node n)
+static enum ending learn(struct run *r, struct entry e)
 {
-    uint64_t mask = n.mask, values = n.code;
+    uint64_t mask = mask_of(e), values = e.code;
     if (reduce(&r->search, &mask, &values) == SPENT)
         return OUT_OF_TRIALS;
     const uint64_t conflict[2] = {widen(mask), values & widen(mask)};
@@ -124,36 +126,36 @@ static enum ending learn(struct run *r, struct node n)
 }
 
 /* Step 7. */
-static enum ending test_full(struct run *r, struct node n)
+static enum ending test_full(struct run *r, struct entry e)
 {
     if (r->tested == UINT32_MAX)
         return OUT_OF_TRIALS;
-    enum answer answer = test(&r->search, n.mask, n.code);
+    enum answer answer = test(&r->search, mask_of(e), e.code);
     if (answer == SPENT)
         return OUT_OF_TRIALS;
     r->tested++;
     if (answer == CONSISTENT) {
-        r->codes[r->listed] = n.code;
-        r->costs[r->listed] = (uint32_t)n.cost;
+        r->codes[r->listed] = e.code;
+        r->costs[r->listed] = (uint32_t)cost_of(e);
         show(&r->search, &r->values[STATE_BYTES * (size_t)r->listed]);
         r->listed++;
         return GOING_ON;
     }
     if (r->stored < r->store_entries)
-        return learn(r, n);
+        return learn(r, e);
     r->unkept++;
     return GOING_ON;
 }
 
 /* Steps 4 to 7 on the removed node. */
-static enum ending take_node(struct run *r, struct node n)
+static enum ending take_node(struct run *r, struct entry e)
 {
-    size_t i = first_unresolved(r, n);
+    size_t i = first_unresolved(r, e);
     if (i < r->stored)
-        return put_resolving(r, n, &r->store[2 * i]);
-    if ((size_t)__builtin_popcountll(n.mask) < r->search.tables->decisions)
-        return put_branching(r, n);
-    return test_full(r, n);
+        return put_resolving(r, e, &r->store[2 * i]);
+    if ((size_t)__builtin_popcountll(mask_of(e)) < r->search.tables->decisions)
+        return put_branching(r, e);
+    return test_full(r, e);
 }
 
 /* Step 1: whether all offered entries have been checked. */
@@ -177,14 +179,15 @@ static enum ending steps(struct run *r, size_t held)
 {
     if (!check_offered(r, held))
         return OUT_OF_TRIALS;
-    push(r->queue, r->queued++, entry_of(root(r)));
+    push(r->queue, r->queued++, root(r));
     enum ending ending = GOING_ON;
     while (ending == GOING_ON) {
         if (r->queued == 0)
             return ALL;
         if (r->listed == r->k)
             return ENOUGH;
-        ending = take_node(r, node_of(pop(r->queue, r->queued--)));
+        struct entry first = pop(r->queue, r->queued--);
+        ending = take_node(r, first);
     }
     return ending;
 }

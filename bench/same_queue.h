@@ -2,42 +2,25 @@
 
 /* ---- queue ---- */
 
-/* A node: its mask, and the code and cost of its best state. */
-struct node {
-    uint64_t mask, code, cost;
-};
-
-/* A node in the queue, as one number in two words: first what the order goes by,
- * the cost, departures and code of its best state, then its mask's sixteen bits. */
+/* A node: the best state's cost above the mask's sixteen bits, and its code. */
 struct entry {
-    uint64_t a, b;
+    uint64_t key, code;
 };
 
-enum { COST_PLACE = 44, DEPARTURES_PLACE = 39, CODE_LOW = 25, CODE_PLACE = 39, MASK_LOW = 48 };
-
-/* How many variables are out of value 0: the top bit of each digit that is not 0. */
-static uint64_t departures(uint64_t code)
+static uint64_t mask_of(struct entry e)
 {
-    const uint64_t sevens = UINT64_C(0x7777777777777777), eights = UINT64_C(0x8888888888888888);
-    return (uint64_t)__builtin_popcountll((((code & sevens) + sevens) | code) & eights);
+    return e.key << 48;
 }
 
-static struct entry entry_of(struct node n)
+static uint64_t cost_of(struct entry e)
 {
-    return (struct entry){n.cost << COST_PLACE | departures(n.code) << DEPARTURES_PLACE
-                              | n.code >> CODE_LOW,
-                          n.code << CODE_PLACE | n.mask >> MASK_LOW};
+    return e.key >> 16;
 }
 
-static struct node node_of(struct entry e)
+static bool comes_before(struct entry a, struct entry b)
 {
-    return (struct node){e.b << MASK_LOW, (e.a << CODE_LOW) + (e.b >> CODE_PLACE),
-                         e.a >> COST_PLACE};
-}
-
-static bool comes_before(struct entry x, struct entry y)
-{
-    return (x.a < y.a) | ((x.a == y.a) & (x.b < y.b));
+    uint64_t x = cost_of(a), y = cost_of(b);
+    return (x < y) | ((x == y) & (a.code < b.code));
 }
 
 static struct entry entry_at(const uint64_t *queue, size_t i)
@@ -47,8 +30,8 @@ static struct entry entry_at(const uint64_t *queue, size_t i)
 
 static void put(uint64_t *queue, size_t i, struct entry e)
 {
-    queue[2 * i] = e.a;
-    queue[2 * i + 1] = e.b;
+    queue[2 * i] = e.key;
+    queue[2 * i + 1] = e.code;
 }
 
 /* Puts the entry at place i or below it, in a heap of n entries. */
@@ -202,8 +185,7 @@ static size_t sieve(uint64_t *queue, size_t n, const uint64_t *conflict)
     size_t kept = 0;
     for (size_t i = 0; i < n; i++) {
         struct entry e = entry_at(queue, i);
-        struct node own = node_of(e);
-        if (mask & ~own.mask || (own.code ^ conflict[1]) & conflict[0])
+        if (mask & ~mask_of(e) || (e.code ^ conflict[1]) & conflict[0])
             put(queue, kept++, e);
     }
     rebuild(queue, kept);

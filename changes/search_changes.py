@@ -127,17 +127,11 @@ change("join: a product of 63 bits", "Order", "join true a b = a * b", "join tru
 change("unit: a cost of no variables", "Order", "unit false = 0", "unit false = 1")
 change("unit: a product of none is 0", "Order", "unit true = 1", "unit true = 0")
 change("unit: a product of none is 2", "Order", "unit true = 1", "unit true = 2")
-change("order: greatest code first", "Order", "&& ltb (code f) (code g))", "&& ltb (code g) (code f))")
+change("order: greatest code first", "Order", "(eqb (o.figure f) (o.figure g) && ltb (code f) (code g))", "(eqb (o.figure f) (o.figure g) && ltb (code g) (code f))")
+change("order: highest code of equal costs", "Order", "(eqb (o.figure f) (o.figure g) && ltb (code f) (code g))", "(eqb (o.figure f) (o.figure g) && elim o.weighed [ true ↦ ltb (code f) (code g) | false ↦ ltb (code g) (code f) ])")
+change("order: highest code of equal products", "Order", "(eqb (o.figure f) (o.figure g) && ltb (code f) (code g))", "(eqb (o.figure f) (o.figure g) && elim o.weighed [ true ↦ ltb (code g) (code f) | false ↦ ltb (code f) (code g) ])")
+SOONER = "better o.weighed (o.figure f) (o.figure g) || (eqb (o.figure f) (o.figure g) && ltb (code f) (code g))"
 EQUAL_FIRST = "ltb (departures f) (departures g) || (eqb (departures f) (departures g) && ltb (code f) (code g))"
-HIGHEST = EQUAL_FIRST.replace("ltb (code f) (code g)", "ltb (code g) (code f)")
-change("order: highest code of equal costs", "Order", "&& first_of_equal f g)", f"&& elim o.weighed [ true ↦ first_of_equal f g | false ↦ {HIGHEST} ])")
-change("order: highest code of equal products", "Order", "&& first_of_equal f g)", f"&& elim o.weighed [ true ↦ {HIGHEST} | false ↦ first_of_equal f g ])")
-SOONER = "better o.weighed (o.figure f) (o.figure g) || (eqb (o.figure f) (o.figure g) && first_of_equal f g)"
-change("order: departures before figure", "Order", SOONER, "first_of_equal f g")
-change("order: departures beside figure", "Order", SOONER, "better o.weighed (o.figure f) (o.figure g) || first_of_equal f g")
-change("order: equal costs by code alone", "Order", "&& first_of_equal f g)", "&& elim o.weighed [ true ↦ first_of_equal f g | false ↦ ltb (code f) (code g) ])")
-change("order: equal products by code alone", "Order", "&& first_of_equal f g)", "&& elim o.weighed [ true ↦ ltb (code f) (code g) | false ↦ first_of_equal f g ])")
-change("order: the other of equal ones", "Order", "&& first_of_equal f g)", "&& first_of_equal g f)")
 change("equal: most departures first", "Order", EQUAL_FIRST, EQUAL_FIRST.replace("ltb (departures f) (departures g)", "ltb (departures g) (departures f)"))
 change("equal: code before departures", "Order", EQUAL_FIRST, "ltb (code f) (code g) || (eqb (code f) (code g) && ltb (departures f) (departures g))")
 change("equal: code alone", "Order", EQUAL_FIRST, "ltb (code f) (code g)")
@@ -156,10 +150,6 @@ change("departures: of none 1", "Order", "departures [] = 0", "departures [] = 1
 change("departs: every value", "Order", "departs zero = 0", "departs zero = 1")
 change("departs: value 0 alone", "Order", "departs zero = 0\ndeparts (suc x) = 1", "departs zero = 1\ndeparts (suc x) = 0")
 change("departs: twice", "Order", "departs (suc x) = 1", "departs (suc x) = 2")
-FREE = "place_all (before o) (keep (λ f. is_consistent p (full f))"
-OUT = "departures (get_or (keep (λ s. agrees s (over_all p (full {0})) && all_hold s p.clauses) (every (sizes p))) 0 [])"
-WITH_HIDDEN = SOONER.replace("first_of_equal f g", "(" + EQUAL_FIRST.replace("departures f)", OUT.format("f") + ")").replace("departures g)", OUT.format("g") + ")") + ")")
-change("whole set: hidden departures too", "Order", FREE, FREE.replace("(before o)", f"(λ f g. {WITH_HIDDEN})"))
 change("order: code before figure", "Order", SOONER, "ltb (code f) (code g)")
 change("order: figure or code", "Order", SOONER, "better o.weighed (o.figure f) (o.figure g) || ltb (code f) (code g)")
 change("order: figure alone", "Order", SOONER, "better o.weighed (o.figure f) (o.figure g)")

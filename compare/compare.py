@@ -29,7 +29,6 @@ from solvers import (
     ROOT,
     Shop,
     clingo_bound,
-    in_order,
     ours,
     solvers,
     toulbar2_told,
@@ -60,11 +59,11 @@ def check(job, k, solver, answer, reference):
     if answer.list == reference.list:
         return ""
     assert not (solver.fixed and k != ALL), f"order: {wrong}"
-    if in_order(answer.list) == reference.list:
+    if sorted(answer.list) == reference.list:
         return "order of ties" if costs == sorted(costs) else "unsorted"
     last = reference.list[-1][0]
     below = [[s for s in which if s[0] < last] for which in (answer.list, reference.list)]
-    assert in_order(below[0]) == below[1], f"states: {wrong}"
+    assert sorted(below[0]) == below[1], f"states: {wrong}"
     assert set(answer.list) <= set(ours(job, ALL).list), f"states: {wrong}"
     return "other states at the last cost"
 

@@ -2,11 +2,9 @@
 //
 //   gecode_list TABLES K [REPEATS]        K 0: all states
 //
-// TABLES is what compare.py writes. States are ordered by cost, then departures, then
-// code; the departures are the parts out of value 0. Cost and departures are one
-// number, the key. Parts are branched on in their order, values from 0, so states
-// come by code, and of equal keys the first k by code stay: the bound is the k-th
-// least key found so far, and only less is looked for.
+// TABLES is what compare.py writes. Parts are branched on in their order, values
+// from 0, so states come by code, and of equal costs the first k by code stay:
+// the bound is the k-th least cost found so far, and only less is looked for.
 // A state fits if a search over the hidden variables alone finds values.
 // Prints the list, cost and code a line; with REPEATS the median nanoseconds of
 // processor time of building the model and searching, in this process, instead.
@@ -36,17 +34,6 @@ struct Plant {
     std::vector<int> sizes;
     std::vector<std::vector<int>> costs;
     std::vector<Table> tables;
-
-    // A state has at most as many departures as parts.
-    int keys_a_cost() const { return parts + 1; }
-    // What each value adds to the key.
-    std::vector<int> shares(int part) const
-    {
-        std::vector<int> own(costs[part]);
-        for (size_t value = 0; value < own.size(); value++)
-            own[value] = own[value] * keys_a_cost() + (value != 0);
-        return own;
-    }
 };
 
 static bool read(const char *path, Plant &p)
@@ -78,13 +65,13 @@ static bool read(const char *path, Plant &p)
     return bool(in);
 }
 
-// A full list's last key: only states of a lesser one are looked for.
+// A full list's last cost: only cheaper states are looked for.
 static int bound;
 
 class Model : public Space {
 public:
     IntVarArray x;
-    IntVar key;
+    IntVar cost;
     int parts;
 
     Model(const Plant &p) : x(*this, p.variables), parts(p.parts)
@@ -108,15 +95,14 @@ public:
         int most = 0;
         IntVarArgs shares;
         for (int i = 0; i < p.parts; i++) {
-            std::vector<int> values = p.shares(i);
-            int dearest = *std::max_element(values.begin(), values.end());
+            int dearest = *std::max_element(p.costs[i].begin(), p.costs[i].end());
             IntVar share(*this, 0, dearest);
-            element(*this, IntArgs(values), x[i], share);
+            element(*this, IntArgs(p.costs[i]), x[i], share);
             shares << share;
             most += dearest;
         }
-        key = IntVar(*this, 0, most);
-        linear(*this, shares, IRT_EQ, key);
+        cost = IntVar(*this, 0, most);
+        linear(*this, shares, IRT_EQ, cost);
         IntVarArgs own;
         for (int i = 0; i < p.parts; i++)
             own << x[i];
@@ -125,10 +111,10 @@ public:
     Model(Model &other) : Space(other), parts(other.parts)
     {
         x.update(*this, other.x);
-        key.update(*this, other.key);
+        cost.update(*this, other.cost);
     }
     Space *copy() override { return new Model(*this); }
-    void constrain(const Space &) override { rel(*this, key, IRT_LE, bound); }
+    void constrain(const Space &) override { rel(*this, cost, IRT_LE, bound); }
 
     bool fits() const
     {
@@ -163,7 +149,7 @@ template <class Engine> static List search(const Plant &p, size_t k)
     delete root;
     while (Model *found = engine.next()) {
         if (found->fits()) {
-            list.insert({found->key.val(), found->code()});
+            list.insert({found->cost.val(), found->code()});
             if (k != 0 && list.size() > k)
                 list.erase(std::prev(list.end()));
             if (k != 0 && list.size() == k)
@@ -193,8 +179,8 @@ int main(int argc, char **argv)
         return 2;
     size_t k = strtoul(argv[2], nullptr, 10);
     if (argc == 3) {
-        for (const auto &[key, code] : listed(p, k))
-            printf("%d %s\n", key / p.keys_a_cost(), code.c_str());
+        for (const auto &[cost, code] : listed(p, k))
+            printf("%d %s\n", cost, code.c_str());
         return 0;
     }
     std::vector<double> times(std::max(1, atoi(argv[3])));

@@ -6,8 +6,7 @@ from math import prod
 
 def clingo(plant, told):
     """Choice rules for values, a constraint a clause, the cost to minimise. Told
-    to break ties: the departures, which are the parts out of value 0, are minimised
-    next, then part 0's value, part 1's and so on."""
+    to break ties: part 0's value is minimised next, then part 1's, and so on."""
     parts = plant.decisions
 
     def atom(variable, value):
@@ -19,9 +18,8 @@ def clingo(plant, told):
         lines.append(f":- {', '.join(fails)}." if clause else ":- #true.")
     for i, costs in enumerate(plant.costs):
         lines += [f"cost({i},{value},{cost})." for value, cost in enumerate(costs)]
-    lines.append(f"#minimize {{ C@{parts + 2},I : x(I,V), cost(I,V,C) }}.")
+    lines.append(f"#minimize {{ C@{parts + 1},I : x(I,V), cost(I,V,C) }}.")
     if told:
-        lines.append(f"#minimize {{ 1@{parts + 1},I : x(I,V), V > 0 }}.")
         lines.append(f"#minimize {{ V@{parts}-I,I : x(I,V) }}.")
     lines.append("#show x/2.")
     return "\n".join(lines) + "\n"
@@ -48,33 +46,23 @@ def failing(plant, clause, variable):
 
 
 def weights(plant, told):
-    """The costs of parts' values. Told to break ties: cost and departure as one
-    number, times the number of states, plus the value's share of the state's rank
-    by code."""
+    """The costs of parts' values. Told to break ties: cost times the number of
+    states, plus the value's share of the state's rank by code."""
     if not told:
         return plant.costs
     own = plant.sizes[: plant.decisions]
     rank = [prod(own[i + 1 :]) for i in range(len(own))]
     return tuple(
-        tuple(
-            with_departure(plant, cost, value) * prod(own) + value * rank[i]
-            for value, cost in enumerate(costs)
-        )
+        tuple(cost * prod(own) + value * rank[i] for value, cost in enumerate(costs))
         for i, costs in enumerate(plant.costs)
     )
-
-
-def with_departure(plant, cost, value):
-    """A state has at most as many departures as parts, so that they stay below
-    its cost."""
-    return cost * (plant.decisions + 1) + (value != 0)
 
 
 def toulbar2(plant, told):
     """wcsp: a unary cost function a part, a hard table a scope."""
     costs = weights(plant, told)
     top = sum(map(max, costs)) + 1
-    assert top < 2**58, "costs, departures and code together are too large for toulbar2"
+    assert top < 2**58, "costs and code together are too large for toulbar2"
     functions = []
     for i, own in enumerate(costs):
         rows = "".join(f"{value} {cost}\n" for value, cost in enumerate(own))

@@ -26,17 +26,6 @@ ARCHIVE = ROOT / "target/lib/libleading.a"
 Answer = namedtuple("Answer", "list seconds runs")
 
 
-def in_order(states):
-    """Of (cost, code): by cost, then departures, which are the parts out of value 0,
-    then code."""
-
-    def key(state):
-        cost, code = state
-        return cost, sum(digit != "0" for digit in f"{code:x}"), code
-
-    return sorted(states, key=key)
-
-
 # ---- processes -------------------------------------------------------------
 
 
@@ -197,7 +186,7 @@ def by_bound(job, k, best, under):
         most = min(2 * max(most, 1), dearest)
         found, spent = under(job, most)
         seconds, runs = seconds + spent, runs + 1
-        found = in_order(set(found))
+        found = sorted(set(found))
         if len(found) >= k or most == dearest:
             return Answer(found[:k], seconds, runs)
 

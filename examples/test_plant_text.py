@@ -259,11 +259,10 @@ class PlantText(unittest.TestCase):
         for state in itertools.product(*map(range, plant.sizes[: plant.decisions])):
             if search.test(plant, state, search.Meter(1_000_000)) is not None:
                 product = prod(weights[value] for weights, value in zip(plant.costs, state))
-                departures = sum(value != 0 for value in state)
-                found.append((-product, departures, search.to_words(state)[1]))
+                found.append((-product, search.to_words(state)[1]))
         lines = [
             f"{rank} {-turned} {code:016x} {chance_text(-turned, plant.decisions)}"
-            for rank, (turned, _, code) in enumerate(sorted(found), 1)
+            for rank, (turned, code) in enumerate(sorted(found), 1)
         ]
         listed = (EXAMPLES / "workshop.list").read_text().splitlines()
         self.assertEqual(listed[:-1], lines[:16])

@@ -7,7 +7,7 @@ set -euo pipefail
 cd "$(dirname "$0")/.."
 archive=$1
 out=target/host
-costs=(small driveline ties departures spent)
+costs=(small driveline ties spent)
 weights=(workshop)
 examples=("${costs[@]}" "${weights[@]}")
 strict=(-Wall -Wextra -Wpedantic -Wconversion -Werror -Iinclude)
@@ -331,7 +331,6 @@ check_named() {
     lists "$said" -k 3 examples/small.plant
     lists "$(in_readme examples/README.md enough)" -k 2 examples/small.plant
     lists "$(in_readme examples/README.md hidden)" -v examples/small.plant
-    lists "$(in_readme examples/README.md departures)" examples/departures.plant
     lists "$(in_readme examples/README.md weights)" -k 7 examples/workshop.plant
     lists "$(in_readme README.md weights)" -k 6 examples/workshop.plant
     prints "$out/leading_host" "$(in_readme examples/README.md host)" -k 1 examples/workshop.sheet

@@ -1,9 +1,9 @@
 /* leading.h against the runs P1 to P11 of the specification, some with hidden values
- * that are not 0, some with weights and some with ties, against tests and reductions,
- * and each refusal: what is returned, and every word and byte of every buffer, those
- * around them too. Then runs that offer what another learned, each call on the other's
- * edition, the longest sheet with weights, the version, the texts, LEADING_PARTS,
- * LEADING_HIDDEN and the chances that the host prints.
+ * that are not 0 and some with weights, against tests and reductions, and each refusal:
+ * what is returned, and every word and byte of every buffer, those around them too. Then
+ * runs that offer what another learned, each call on the other's edition, the longest
+ * sheet with weights, the version, the texts, LEADING_PARTS, LEADING_HIDDEN and the
+ * chances that the host prints.
  */
 #include "leading.h"
 
@@ -56,30 +56,13 @@ static const uint8_t even_plant[SHEET_ROOM] = {
 static const uint8_t great_plant[SHEET_ROOM] = {
     0x02, 0x40, 0x00, 0x00, 0xb2, 0x7f, 0x87, 0xf8, 0x7f,
     0x87, 0xf8, 0x7f, 0x87, 0xf8, 0x7f, 0x87, 0xf8};
-
-/* Selector costs 0 and 4, clutch 0 and 2, pump 0 and 2, and no clause: the selector
- * alone costs as much as clutch and pump together, and departs in fewer parts. */
-static const uint8_t departures_plant[SHEET_ROOM] = {
-    0x01, 0x18, 0x00, 0x00, 0x80, 0x00, 0x00, 0x02, 0x08,
-    0x00, 0x00, 0x00, 0x10, 0x80, 0x00, 0x00, 0x01, 0x00};
-
-/* The same with weights: 16 and 4, 16 and 8, 16 and 8. */
-static const uint8_t departures_weights_plant[SHEET_ROOM] = {
-    0x02, 0x18, 0x00, 0x00, 0x88, 0x02, 0x08, 0x80, 0x40, 0x88, 0x04, 0x00};
-
-/* Costs 0 and 2, 2 and 0, 0 and 4, and no clause: a departure is from value 0, also
- * where that is not the cheapest. */
-static const uint8_t dear_zero_plant[SHEET_ROOM] = {
-    0x01, 0x18, 0x00, 0x00, 0x80, 0x00, 0x00, 0x01, 0x08,
-    0x00, 0x10, 0x00, 0x00, 0x80, 0x00, 0x00, 0x02, 0x00};
-
 #define SQUARE(number) ((uint64_t)(number) * (number))
 #define TO_THE_4TH SQUARE(SQUARE(LEADING_WEIGHT_MOST))
 #define TO_THE_7TH (TO_THE_4TH * SQUARE(LEADING_WEIGHT_MOST) * LEADING_WEIGHT_MOST)
 
 /* The states that fit, in order, with their costs or products, and the values of all
  * variables. */
-#define STATES_MOST 8
+#define STATES_MOST 4
 #define VARIABLES_MOST 3
 struct states {
     uint64_t codes[STATES_MOST];
@@ -115,24 +98,6 @@ static const struct states of_even = {
 static const struct states of_great = {
     {LEADING_CODE(0, 1), 0}, {SQUARE(TO_THE_4TH), 100 * TO_THE_7TH}, {{1, 0, 0}, {0, 0, 0}}};
 
-#define THREE(x, y, z) (LEADING_CODE(0, x) | LEADING_CODE(1, y) | LEADING_CODE(2, z))
-static const struct states of_departures = {
-    {THREE(0, 0, 0), THREE(0, 0, 1), THREE(0, 1, 0), THREE(1, 0, 0), THREE(0, 1, 1),
-     THREE(1, 0, 1), THREE(1, 1, 0), THREE(1, 1, 1)},
-    {0, 2, 2, 4, 4, 6, 6, 8},
-    {{0, 0, 0}, {0, 0, 1}, {0, 1, 0}, {1, 0, 0}, {0, 1, 1}, {1, 0, 1}, {1, 1, 0}, {1, 1, 1}}};
-static const struct states of_departures_weights = {
-    {THREE(0, 0, 0), THREE(0, 0, 1), THREE(0, 1, 0), THREE(1, 0, 0), THREE(0, 1, 1),
-     THREE(1, 0, 1), THREE(1, 1, 0), THREE(1, 1, 1)},
-    {16 * 16 * 16, 16 * 16 * 8, 16 * 8 * 16, 4 * 16 * 16, 16 * 8 * 8, 4 * 16 * 8, 4 * 8 * 16,
-     4 * 8 * 8},
-    {{0, 0, 0}, {0, 0, 1}, {0, 1, 0}, {1, 0, 0}, {0, 1, 1}, {1, 0, 1}, {1, 1, 0}, {1, 1, 1}}};
-static const struct states of_dear_zero = {
-    {THREE(0, 1, 0), THREE(0, 0, 0), THREE(1, 1, 0), THREE(1, 0, 0), THREE(0, 1, 1),
-     THREE(0, 0, 1), THREE(1, 1, 1), THREE(1, 0, 1)},
-    {0, 2, 2, 4, 4, 6, 6, 8},
-    {{0, 1, 0}, {0, 0, 0}, {1, 1, 0}, {1, 0, 0}, {0, 1, 1}, {0, 0, 1}, {1, 1, 1}, {1, 0, 1}}};
-
 struct change {
     size_t place;
     uint8_t byte;
@@ -160,9 +125,6 @@ struct given {
 #define TIED {tied_plant, {UNCHANGED, 0}, {UNCHANGED, 0}, 9}
 #define EVEN {even_plant, {UNCHANGED, 0}, {UNCHANGED, 0}, 12}
 #define GREAT {great_plant, {UNCHANGED, 0}, {UNCHANGED, 0}, 17}
-#define DEPARTURES {departures_plant, {UNCHANGED, 0}, {UNCHANGED, 0}, 18}
-#define DEPARTURES_WEIGHTS {departures_weights_plant, {UNCHANGED, 0}, {UNCHANGED, 0}, 12}
-#define DEAR_ZERO {dear_zero_plant, {UNCHANGED, 0}, {UNCHANGED, 0}, 18}
 
 #define SELECTOR LEADING_MASK(0)
 #define CLUTCH LEADING_MASK(1)
@@ -274,17 +236,6 @@ static const struct run {
      {1, 2, 2, 0, 0, 0}, CLUTCH},
     {"great", GREAT, {16, 16, 16, 768, 8192, 128, 6, 0}, {0, 0}, 0, &of_great, {2, 2, 2, 0, 0, 0},
      0},
-
-    {"departures", DEPARTURES, {16, 16, 16, 768, 8192, 128, 6, 0}, {0, 0}, 0, &of_departures,
-     {2, 8, 8, 0, 0, 0}, 0},
-    {"departures, k 4", DEPARTURES, {4, 4, 4, 192, 8192, 128, 6, 0}, {0, 0}, 0, &of_departures,
-     {1, 4, 4, 0, 0, 0}, 0},
-    {"departures, weights", DEPARTURES_WEIGHTS, {16, 16, 16, 768, 8192, 128, 6, 0}, {0, 0}, 0,
-     &of_departures_weights, {2, 8, 8, 0, 0, 0}, 0},
-    {"departures, weights, k 4", DEPARTURES_WEIGHTS, {4, 4, 4, 192, 8192, 128, 6, 0}, {0, 0}, 0,
-     &of_departures_weights, {1, 4, 4, 0, 0, 0}, 0},
-    {"0 is dear", DEAR_ZERO, {16, 16, 16, 768, 8192, 128, 6, 0}, {0, 0}, 0, &of_dear_zero,
-     {2, 8, 8, 0, 0, 0}, 0},
 };
 
 static const struct refused_host {

@@ -3,15 +3,14 @@
  * the plant decides.
  *
  * leading_list() reads a plant sheet and lists the cheapest states of the plant's
- * parts that fit all of the sheet's clauses, cheapest first, and for each the values
- * of the hidden variables. Of equal costs the state with the fewest parts out of their
- * state 0 comes first, and then the one of lower code. Two lists of one sheet never
+ * parts that fit all of the sheet's clauses, cheapest first, equal costs by code,
+ * and for each the values of the hidden variables. Two lists of one sheet never
  * contradict each other: of any two, one begins the other, whatever queue, store or
  * trial limit each was given, and a state on both has the same hidden values. That
  * is proved of the code that you link.
  *
  * leading_list_weights() does the same with a workshop's chances in place of costs:
- * the likeliest state comes first, equal ones as with costs.
+ * the likeliest state comes first, equal ones by code.
  *
  * leading_test() says whether given states of some parts can be together, and shows
  * values of all variables where they can; leading_reduce() says which of them are to
@@ -110,14 +109,12 @@ extern "C" {
 
 /* ---- Version ------------------------------------------------------------ */
 
-/* Of this interface. MAJOR rises with a change that breaks callers or the order of
- * states, MINOR with one that adds to it, or after which an answer says more. That
- * two lists never contradict each other is said of archives of one MAJOR: cabins
- * that compare lists are linked to such. */
-#define LEADING_VERSION_MAJOR 2
-#define LEADING_VERSION_MINOR 0
+/* Of this interface. MAJOR rises with a change that breaks callers, MINOR with
+ * one that adds to it, or after which an answer says more. */
+#define LEADING_VERSION_MAJOR 1
+#define LEADING_VERSION_MINOR 2
 #define LEADING_VERSION_PATCH 0
-#define LEADING_VERSION "2.0.0"
+#define LEADING_VERSION "1.2.0"
 
 /* The three in one number, for #if and for leading_version(). */
 #define LEADING_VERSION_NUMBER                                       \
@@ -468,9 +465,7 @@ static inline const char *leading_reduce_text(uint32_t answer)
 uint32_t leading_version(void);
 
 /*
- * Lists the first k states of the sheet's plant that fit: the lowest cost first, of
- * equal costs the fewest parts out of their state 0, and of as many the lowest code.
- * Hidden variables have no part in the order.
+ * Lists the first k states of the sheet's plant that fit.
  *
  * sheet, sheet_len
  *     The plant sheet, any bytes; only read. Anything that is not a whole sheet
@@ -540,11 +535,10 @@ uint32_t leading_list(const uint8_t *sheet, size_t sheet_len,
 
 /*
  * Lists the first k states of the sheet's plant that fit, by chances: the greatest
- * product first, of equal products the fewest parts out of their state 0, and of as
- * many the lowest code. It takes what leading_list takes, with products in the place
- * of costs, and goes by the same steps, endings and refusals; of two lists of one
- * sheet one begins the other here too, whatever each call was given, and that is
- * proved.
+ * product first, equal ones by code. It takes what leading_list takes, with products
+ * in the place of costs, and goes by the same steps, endings and refusals; of two
+ * lists of one sheet one begins the other here too, whatever each call was given, and
+ * that is proved.
  *
  * sheet, sheet_len
  *     The plant sheet, any bytes; only read. Anything that is not a whole sheet of

@@ -9,11 +9,10 @@ from typing import NamedTuple
 
 from listing import COSTS, ORDERS, PRODUCTS, Order, Settings
 from listing_cases import order_plant
-from plant import SECOND, Refusal, encode, fields, pack, read
+from plant import Refusal, encode, fields, pack, read
 from search import STATE_BYTES, to_words, well_formed
-from shapes import departing_plant, extension_of, laden_plant, nogood_plant
-from shapes import random_assignment, random_sizes, random_words, relatives, shaped
-from shapes import small_random_plant, spoil, weighed
+from shapes import extension_of, nogood_plant, random_assignment, random_sizes
+from shapes import random_words, relatives, shaped, small_random_plant, spoil, weighed
 from sheet_cases import end_damage, flipped, header_damage, longest_plant, with_field
 from test_cases import Call, answer_call, middle_plant, tight_plant
 
@@ -138,8 +137,6 @@ PLANTS = [
     (20, nogood_plant),
     (18, tight_plant),
     (14, tied_plant),
-    (14, departing_plant),
-    (5, laden_plant),
     (12, wide_plant),
     (20, shaft_plant),
     (8, full_plant),
@@ -166,20 +163,12 @@ def any_plant(rng, plants=PLANTS):
     return rng.choices(makers, weights)[0](rng)
 
 
-def second_plant(rng):
-    """With products that are close, around 2^63, or of many states the same."""
-    kind = rng.randrange(10)
-    if kind < 4:
-        return order_plant(rng)
-    return laden_plant(rng, SECOND) if kind == 4 else departing_plant(rng, SECOND)
-
-
 def either_plant(rng, plants=PLANTS):
-    """In edition 1 or 2; of these some made for their products."""
+    """In edition 1 or 2; of these some whose products are close or around 2^63."""
     plant = any_plant(rng, plants)
     if rng.random() < 0.5:
         return plant
-    return second_plant(rng) if rng.random() < 0.25 else weighed(rng, plant)
+    return order_plant(rng) if rng.random() < 0.1 else weighed(rng, plant)
 
 
 # ---- damage ----------------------------------------------------------------

@@ -1,7 +1,7 @@
 /* Wrong calls over the right ones, to see that scale.py finds them: IMPOSTOR says
- * which; 1 to 8, 35 to 46, 51 to 65 and 66 list, 67 to 80 list by weights, 85 to 92 list
- * either way, 9 to 13, 47 to 50, 81 and 82 test, 14 to 19 and 83 reduce, 20 to 29 write,
- * 30 to 34 and 84 read. Linked with --wrap for each of the six; no part of the gate. */
+ * which; 1 to 8, 35 to 46, 51 to 65 and 66 list, 67 to 80 list by weights, 9 to 13, 47 to
+ * 50, 81 and 82 test, 14 to 19 and 83 reduce, 20 to 29 write, 30 to 34 and 84 read.
+ * Linked with --wrap for each of the six; no part of the gate. */
 #include "leading.h"
 
 #include <string.h>
@@ -416,12 +416,12 @@ static int behind(const uint8_t *sheet, const uint64_t *codes, const uint64_t *p
     return 0;
 }
 
-static void swap_states(uint64_t *codes, uint64_t *figures, uint8_t *values, size_t i)
+static void swap_states(uint64_t *codes, uint64_t *products, uint8_t *values, size_t i)
 {
     uint8_t shown[LEADING_STATE_BYTES], *at = values + LEADING_VALUES_BYTES(i);
-    uint64_t code = codes[i], figure = figures[i];
+    uint64_t code = codes[i], product = products[i];
     codes[i] = codes[i + 1], codes[i + 1] = code;
-    figures[i] = figures[i + 1], figures[i + 1] = figure;
+    products[i] = products[i + 1], products[i + 1] = product;
     memcpy(shown, at, sizeof shown);
     memmove(at, at + sizeof shown, sizeof shown);
     memcpy(at + sizeof shown, shown, sizeof shown);
@@ -435,62 +435,6 @@ static void order_otherwise(const uint8_t *sheet, uint64_t *codes, uint64_t *pro
         for (uint32_t i = 0; i + 1 < end; i++)
             if (behind(sheet, codes, products, i))
                 swap_states(codes, products, values, i);
-}
-
-/* ---- departures ---- */
-
-/* Whether states of one figure are put in another order. */
-static int other_departures(const uint8_t *sheet)
-{
-    if (IMPOSTOR == 89) /* in edition 1 alone */
-        return sheet[0] == LEADING_EDITION;
-    if (IMPOSTOR == 90) /* in edition 2 alone */
-        return sheet[0] == SECOND_EDITION;
-    return 84 < IMPOSTOR && IMPOSTOR < 93;
-}
-
-/* What is counted of a listed state. */
-static unsigned departures(const uint8_t *sheet, const uint8_t *shown)
-{
-    unsigned normal = IMPOSTOR == 88; /* value 1 */
-    unsigned counted = LEADING_PARTS(sheet), n = 0;
-    if (IMPOSTOR == 86 || IMPOSTOR == 89 || IMPOSTOR == 90) /* the code alone decides */
-        counted = 0;
-    if (IMPOSTOR == 87) /* hidden variables too */
-        counted = variables(sheet);
-    for (unsigned i = 0; i < counted; i++)
-        n += IMPOSTOR == 91 ? shown[i] : shown[i] != normal; /* values added */
-    return n;
-}
-
-/* Whether the state at one place comes behind the next one's, of the same figure. */
-static int departs_behind(const uint8_t *sheet, const uint64_t *codes, const uint8_t *values,
-                          size_t i)
-{
-    unsigned own = departures(sheet, values + LEADING_VALUES_BYTES(i));
-    unsigned next = departures(sheet, values + LEADING_VALUES_BYTES(i + 1));
-    if (own != next)
-        return IMPOSTOR == 85 ? own < next : own > next; /* most departures first */
-    return IMPOSTOR == 92 ? codes[i] < codes[i + 1] : codes[i] > codes[i + 1]; /* highest code */
-}
-
-static void depart_otherwise(const uint8_t *sheet, uint64_t *codes, uint64_t *figures,
-                             uint8_t *values, uint32_t listed)
-{
-    for (uint32_t end = listed; other_departures(sheet) && end > 1; end--)
-        for (uint32_t i = 0; i + 1 < end; i++)
-            if (figures[i] == figures[i + 1] && departs_behind(sheet, codes, values, i))
-                swap_states(codes, figures, values, i);
-}
-
-/* By costs: those of exchanged states are equal. */
-static void depart_by_costs(const uint8_t *sheet, uint64_t *codes, const uint32_t *costs,
-                            uint8_t *values, uint32_t listed)
-{
-    static uint64_t figures[LEADING_K_MOST];
-    for (uint32_t i = 0; i < listed; i++)
-        figures[i] = costs[i];
-    depart_otherwise(sheet, codes, figures, values, listed);
 }
 
 /* A sheet of edition 1, taken by the call of edition 2. */
@@ -541,7 +485,6 @@ uint32_t __wrap_leading_list_weights(WEIGHED)
         return refused;
     uint32_t listed = result[LEADING_LISTED];
     order_otherwise(own, codes, products, values, listed);
-    depart_otherwise(own, codes, products, values, listed);
     for (uint32_t i = 0; i < listed; i++) {
         if (IMPOSTOR == 70) /* products cut to 32 bits */
             products[i] = (uint32_t)products[i];
@@ -590,7 +533,6 @@ uint32_t __wrap_leading_list(LENT)
     if (IMPOSTOR == 57) /* the tally lowered */
         *learned -= pushed < *learned ? pushed : *learned;
     show_otherwise(sheet, sheet_len, values, values_len, listed);
-    depart_by_costs(sheet, codes, costs, values, listed);
     if (IMPOSTOR == 4) /* the queue's last word */
         queue[queue_len - 1] ^= 1;
     if (IMPOSTOR == 5 && listed < codes_len) /* a code beyond listed */

@@ -31,15 +31,9 @@ class Order(NamedTuple):
     def figure(self, plant, state):
         return self.whole(costs[value] for costs, value in zip(plant.costs, state))
 
-    def departures(self, plant, state):
-        """How many decision variables are out of their value 0."""
-        return sum(value != 0 for value in state)
-
     def key(self, plant, state):
-        """The best figure first, then the fewest departures, then the lowest code as a
-        number."""
-        rank = self.rank(self.figure(plant, state))
-        return rank, self.departures(plant, state), to_words(state)[1]
+        """The best figure first, then the lowest code as a number."""
+        return self.rank(self.figure(plant, state)), to_words(state)[1]
 
     def best_value(self, costs):
         ranks = list(map(self.rank, costs))

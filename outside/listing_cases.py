@@ -7,12 +7,12 @@ from random import Random
 from typing import NamedTuple, Optional
 
 from listing import K_MOST, ORDERS, Run as Steps, Settings, listing
-from orders import OTHER_DEPARTURES, OTHER_ORDERS
-from plant import FIRST, SECOND, Literal, Plant, Refusal, encode
+from orders import OTHER_ORDERS
+from plant import SECOND, Literal, Plant, Refusal, encode
 from pushed import OTHER_RULES
 from search import STATE_BYTES, to_words
-from shapes import departing_plant, halved, laden_plant, nogood_plant, random_assignment
-from shapes import random_words, relatives, shaped, small_random_plant, spoil, weighed
+from shapes import nogood_plant, random_assignment, random_words, relatives, shaped
+from shapes import small_random_plant, spoil, weighed
 from sheet_cases import (
     LIMIT_MOST,
     SMALL_PLANT,
@@ -315,12 +315,11 @@ def values_length_runs():
 
 
 def longest_list_run():
-    """4,096 states listed, with hidden variables that are not 0. The queue is just long
-    enough for the states of six departures in twelve, and one more."""
+    """4,096 states listed, with hidden variables that are not 0."""
     first, second = Literal(12, 1, 0), Literal(13, 0, 2)
     clauses = ((first, Literal(0, 0, 0)), (second, Literal(11, 1, 1)))
     plant = Plant(((0, 0),) * 12, (3, 3), clauses)
-    return Run(encode(plant), 4096, 4096, 4096, 196_608, queue=2 * 925)
+    return Run(encode(plant), 4096, 4096, 4096, 196_608, queue=64)
 
 
 def spare_values_runs(rng):
@@ -643,122 +642,6 @@ def weighed_runs():
     return runs + weighed_random_runs(rng) + weighed_store_runs()
 
 
-# ---- departures before the code --------------------------------------------
-
-
-def in_both(parts, hidden=(), clauses=(), **numbers):
-    """A listing by these costs, and one by weights that rank the states alike."""
-    weights = tuple(map(halved, parts))
-    first = Run(encode(Plant(parts, hidden, clauses)), **numbers)
-    return [first, weighing(Plant(weights, hidden, clauses, SECOND), **numbers)]
-
-
-# Selector, clutch and pump of the request.
-PUMP_COSTS = (0, 4), (0, 2), (0, 2)
-
-
-def pump_runs():
-    """The request's example, with other numbers of states, queues and limits, and with
-    clauses: hidden variables that are out of 0 where the selector is."""
-    runs = in_both(PUMP_COSTS) + in_both(PUMP_COSTS, k=4)
-    for run in runs[:2]:
-        least = least_queue(run._replace(k=5))
-        runs += [least, least._replace(queue=least.queue - 2)]
-    turns = (Literal(0, 0, 0), Literal(3, 0, 2)), (Literal(0, 0, 0), Literal(4, 1, 0))
-    runs += in_both(PUMP_COSTS, (3, 2), turns) + in_both(PUMP_COSTS, (3, 2), turns, limit=20)
-    # Selector and clutch together, and all three at 0, are conflicts.
-    apart = (Literal(0, 0, 0), Literal(1, 0, 0), Literal(3, 0, 1)), (Literal(3, 0, 0),)
-    some = (*(Literal(variable, 1, 0) for variable in range(3)), Literal(3, 0, 1))
-    for run in in_both(PUMP_COSTS, (2,), (*apart, some)):
-        runs += [run, run._replace(store=0), offering(run, offers_of("11. 000 111 .0."))]
-    return runs
-
-
-def tie_runs():
-    """Departures and code that agree or not, values from 1 to 15 of one cost, value 0
-    dear, and costs that are all equal."""
-    runs = []
-    for parts in [
-        ((0, 2), (0, 2), (0, 2)),
-        ((0, 6), (0, 4), (0, 2), (0, 2)),
-        ((2, 0), (0, 2), (0, 2)),
-        ((2, 2, 0), (4, 0, 2), (0, 2, 2)),
-        ((0, *[2] * 15), (0, 2)),
-        ((2, *[0] * 15), (0, 0)),
-        ((0, 4, *[2] * 13, 4), (0, 2), (0, 2)),
-    ]:
-        runs += in_both(parts, k=40, codes=40, costs=40, queue=300)
-    return runs
-
-
-def alike_plant(edition):
-    """As many parts as the edition has, all of one cost. Those behind the first are
-    alike; all are at 1, or all but the first, or none, or the first alone is at 2."""
-    most = edition.decisions_most
-    clauses = [(Literal(0, 1, 1), Literal(1, 0, 1)), (Literal(0, 1, 2), Literal(1, 0, 0))]
-    for variable in range(1, most - 1):
-        for value in (0, 1):
-            clauses.append((Literal(variable, 1, value), Literal(variable + 1, 0, value)))
-    costs = ((7, 7, 7), *[(7, 7)] * (most - 1))
-    return Plant(costs, (), tuple(clauses), edition)
-
-
-def brim_plant(edition):
-    """Its best state has every part out of value 0. Of the next two, of one figure, the
-    one of lower code has so too, and the other has one part at 0."""
-    costs = ((6, 2, 0), *[(6, 0)] * (edition.decisions_most - 2), (2, 0))
-    return Plant(tuple(map(halved, costs)) if edition == SECOND else costs, (), (), edition)
-
-
-def many_part_runs(rng):
-    """As many departures as parts: 16 by costs, 8 by weights."""
-    runs = []
-    for edition in (FIRST, SECOND):
-        level = Plant(((1, 1),) * edition.decisions_most, (), (), edition)
-        brim = Run(encode(brim_plant(edition)), 20, 20, 20, queue=600, store=100)
-        brim = brim._replace(call=edition.number)
-        for plant in (alike_plant(edition), level, laden_plant(rng, edition)):
-            runs.append(brim._replace(sheet=encode(plant)))
-        runs += [brim._replace(k=k) for k in (20, 2, 3)]
-    return runs
-
-
-def as_lister(run, lister):
-    """The answer of another lister, with its order for this call."""
-    return listing(run.sheet, settings_of(run), lister.orders[run.call], lister.kind)
-
-
-def departing_run(rng, edition):
-    """Short and long lists, queues that are too short, limits that strike, offers."""
-    make = laden_plant if rng.random() < 0.2 else departing_plant
-    plant = make(rng, edition)
-    run = Run(encode(plant), 12, 12, 12, call=edition.number)
-    run = run._replace(store=2 * rng.choice([0, 3, 16]), queue=2 * rng.choice([8, 16, 300]))
-    if rng.random() < 0.3:
-        run = offering(run, [random_words(rng, plant, 0.7) for _ in range(2)])
-    return run if rng.random() < 0.7 else run._replace(limit=rng.randint(5, 60))
-
-
-def other_departure_runs(rng):
-    """For each of the other listers, a run of each call that comes out otherwise with it,
-    if one is soon found: some differ in one call alone, some only at 8 or 16 departures."""
-    runs = []
-    for lister in OTHER_DEPARTURES.values():
-        for edition in (FIRST, SECOND):
-            for _ in range(40):
-                run = departing_run(rng, edition)
-                if as_lister(run, lister) != answer_run(run):
-                    runs.append(run)
-                    break
-    return runs
-
-
-@lru_cache(maxsize=1)
-def departure_runs():
-    rng = Random(1010)
-    return pump_runs() + tie_runs() + many_part_runs(rng) + other_departure_runs(rng)
-
-
 def with_room(place, run):
     """The run with a number of bytes of values, now and then more than enough."""
     if run.values is not None:
@@ -774,7 +657,7 @@ def listing_cases():
     cases += wide_runs(rng) + contradiction_runs(rng)
     cases += last_state_runs(Random(404)) + cheapest_value_runs(Random(505))
     cases += values_runs(Random(707)) + short_reason_runs()
-    cases += weighed_runs() + departure_runs()
+    cases += weighed_runs()
     return [with_room(place, run) for place, run in enumerate(cases)]
 
 

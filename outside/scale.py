@@ -21,25 +21,22 @@ from cases import crowded_plant, either_plant, junk, lend, put_offers, shaft_pla
 from cases import tied_plant, wide_plant
 from driver import SHOWN_MOST, Answer, Tally, batches, buffers_of, in_words, run_batch
 from listing import ENDINGS, ORDERS, Result, Run, Settings, export, manifests
-from plant import FIRST, SECOND, encode, read_either
+from plant import encode, read_either
 from pushed import Watch, rules_met
 from search import ANSWER_WORDS, CONFLICT_WORDS, REDUCE_ANSWERS, STATE_BYTES
 from search import TEST_ANSWERS, Meter, reduce_export, test_export, to_words, well_formed
-from shapes import departing_plant, nogood_plant, random_words, relatives
-from shapes import small_random_plant
+from shapes import nogood_plant, random_words, relatives, small_random_plant
 from table_scale import TableTally, report_tables, run_stored, run_tables
 from test_cases import tight_plant
 from whole import assignment_of, begins, brute_consistent, check_demand3, check_rest
-from whole import check_shown, consistent_states, deciders, departures_of_code, minimal
-from whole import shown_at, whole_set
+from whole import check_shown, consistent_states, minimal, shown_at, whole_set
 
-WORK_MOST = 6_000_000
+WORK_MOST = 300_000
 TRIALS_MOST = 60_000
 SPACE_MOST = 1500  # values of all variables, run over by brute force
 ROUNDS = 25
 ENDING_NAMES = {number: name for name, number in ENDINGS.items()}
 ANSWERS = {TEST: list(TEST_ANSWERS), REDUCE: list(REDUCE_ANSWERS)}
-PARTS_MOST = {LIST: FIRST.decisions_most, LIST_WEIGHTS: SECOND.decisions_most}
 
 
 class TooLong(Exception):
@@ -156,7 +153,6 @@ class ListingTally(SearchTally):
     def __init__(self):
         super().__init__()
         self.endings = {LIST: Counter(), LIST_WEIGHTS: Counter()}
-        self.deciders = {LIST: Counter(), LIST_WEIGHTS: Counter()}
 
     def count_run(self, case, want):
         number, listed = want.words("result")[:2]
@@ -164,11 +160,8 @@ class ListingTally(SearchTally):
         self.counts.update(want.rules)
         self.counts["all with k"] += number == ENDINGS["all"] and listed == case.settings.k
         self.counts["longest"] = max(self.counts["longest"], listed)
-        pairs = list_of(want)
-        self.deciders[case.kind].update(deciders(pairs))
-        departures = {departures_of_code(code) for _, code in pairs}
-        self.deciders[case.kind]["every part"] += PARTS_MOST[case.kind] in departures
         if case.kind == LIST_WEIGHTS:
+            pairs = list_of(want)
             self.counts["equal products"] += len({own for own, _ in pairs}) < len(pairs)
             self.counts["wide products"] += any(own >= 2**32 for own, _ in pairs)
 
@@ -248,7 +241,6 @@ HISTORY_PLANTS = [
     (25, nogood_plant),
     (15, tight_plant),
     (15, tied_plant),
-    (15, departing_plant),
     (20, shaft_plant),
     (5, wide_plant),
     (3, crowded_plant),
@@ -395,15 +387,6 @@ def report_calls(tally):
     )
 
 
-def in_lists(counter):
-    """In how many lists what decided between neighbours of one figure."""
-    return (
-        f"departures in {counter['departures']}, against the code in "
-        f"{counter['against the code']}; the code in {counter['code']}; "
-        f"{counter['every part']} with as many departures as an edition has parts"
-    )
-
-
 def report(tally, sheets):
     c = tally.counts
     print(
@@ -415,8 +398,6 @@ def report(tally, sheets):
         f"listed; the longest list {c['longest']}\n"
         f"scale: {c['equal products']} lists with equal products, {c['wide products']} "
         f"with one of more than 32 bits\n"
-        f"scale: lists by costs in which this decided: {in_lists(tally.deciders[LIST])}\n"
-        f"scale: by weights: {in_lists(tally.deciders[LIST_WEIGHTS])}\n"
         f"scale: refusals: {in_words(tally.refusals)}\n"
         f"scale: entries of the store: in {c['longer dropped']} runs an offer dropped that "
         f"contains another, in {c['equal dropped']} one equal to an earlier one; in "

@@ -1,7 +1,7 @@
 #!/usr/bin/env bash
 # bash outside/scale.sh ARCHIVE [--cases N] [--sheets N] [--calls N] [--tables N] [--seed S] [--first N]:
 # the archive against the outside program. Any difference fails it.
-# IMPOSTOR=1 to 92 puts that wrong call of impostor.c in the archive's place.
+# IMPOSTOR=1 to 84 puts that wrong call of impostor.c in the archive's place.
 set -euo pipefail
 cd "$(dirname "$0")/.."
 archive=$1

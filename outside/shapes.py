@@ -1,6 +1,6 @@
 """Random plants, assignments and entries for the tests and the vectors."""
 
-from plant import FIRST, SECOND, STATES_MOST, Literal, Plant
+from plant import SECOND, STATES_MOST, Literal, Plant
 from search import to_words
 
 COST_KINDS = {
@@ -91,51 +91,6 @@ def weighed(rng, plant, kind=None):
     weights = tuple(tuple(weight(rng) for _ in range(s)) for s in plant.sizes[:decisions])
     clauses = (c for c in plant.clauses if all(v < there for v, _, _ in c))
     return Plant(weights, hidden, tuple(clauses), SECOND)
-
-
-def halved(costs):
-    """Weights that rank as these costs do: equal sums are equal products."""
-    return tuple(16 >> cost // 2 for cost in costs)
-
-
-def departing_costs(rng, size):
-    """Costs of which one is as much as several others; now and then value 0 is dear."""
-    costs = [0] + [rng.choice((0, 2, 2, 4, 4, 6)) for _ in range(size - 1)]
-    if rng.random() < 0.3:
-        rng.shuffle(costs)
-    return tuple(costs)
-
-
-def departing_plant(rng, edition=FIRST):
-    """Many states of one figure, with other numbers of parts out of their value 0; and
-    hidden variables that are often out of theirs."""
-    sizes = [rng.choice((2, 2, 3, 4)) for _ in range(rng.randint(3, 5))]
-    if rng.random() < 0.1:
-        sizes[rng.randrange(len(sizes))] = 16
-    costs = tuple(departing_costs(rng, size) for size in sizes)
-    hidden = tuple(rng.randint(2, 3) for _ in range(rng.randrange(4)))
-    lengths = [rng.choice((2, 2, 3)) for _ in range(rng.randint(0, 3))]
-    clauses = [random_clause(rng, sizes + list(hidden), length) for length in lengths]
-    for variable in range(len(sizes), len(sizes) + len(hidden)):
-        # Out of 0 where some part is, or where it is not.
-        part = Literal(rng.randrange(len(sizes)), rng.randrange(2), 0)
-        clauses.append((part, Literal(variable, 1, 0)))
-    if edition == SECOND:
-        costs = tuple(map(halved, costs))
-    return Plant(costs, hidden, tuple(clauses), edition)
-
-
-def laden_plant(rng, edition=FIRST):
-    """As many parts as the edition has, all or most of them dear at value 0: so leading
-    states have as many departures, or almost."""
-    sizes = [rng.choice((2, 2, 3)) for _ in range(edition.decisions_most)]
-    dear = rng.choice([(2, 4), (2, 2, 2, 4, 0)])
-    costs = [tuple(rng.choice((0, 0, 0, 2)) for _ in range(size - 1)) for size in sizes]
-    costs = tuple((rng.choice(dear), *own) for own in costs)
-    clauses = tuple(random_clause(rng, sizes, 2) for _ in range(rng.randrange(4)))
-    if edition == SECOND:
-        costs = tuple(map(halved, costs))
-    return Plant(costs, (), clauses, edition)
 
 
 def random_assignment(rng, plant, chance=0.5):

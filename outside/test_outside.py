@@ -18,28 +18,25 @@ import vectors
 from listing import COSTS, ORDERS, PRODUCTS, Run, Settings, export, leading, listing
 from listing import manifests, survivors
 from listing_cases import NOTHING_FITS, STEPS_PLANT, answer_by, offers_of
-from orders import OTHER_DEPARTURES, OTHER_ORDERS, OTHER_SHEETS
+from orders import OTHER_ORDERS, OTHER_SHEETS
 from plant import FIRST, SECOND, Literal, Plant, Refusal, encode, fields, pack, read
 from plant import read_either
 from pushed import OTHER_RULES, FullReduces, Watch, pushed_out, rules_met
 from search import Meter, is_false, reduce_call, reduce_export, reduce_within, shown
 from search import test, test_call, test_export, to_words, well_formed
-from shapes import departing_plant, laden_plant, nogood_plant, random_assignment
-from shapes import random_words, relatives, small_random_plant, spoil, weighed
+from shapes import nogood_plant, random_assignment, random_words, relatives
+from shapes import small_random_plant, spoil, weighed
 from tables import Tables, grounds, read_tables, sheet_of, tables_of
 from tables import fields as table_fields, write_into, write_tables
 from whole import (
     begins,
     brute_consistent,
     check_demand3,
-    check_list,
     check_rest,
     check_shown,
     check_store,
     consistent_states,
     contains,
-    deciders,
-    departures_of_code,
     first_success,
     minimal,
     run_list,
@@ -365,19 +362,13 @@ def random_settings(rng, plant):
     )
 
 
-def listed_plant(rng, place, order):
-    """A small plant of the order's edition; half have many states of one figure."""
-    if place % 2:
-        return departing_plant(rng, order.edition)
-    plant = small_random_plant(rng, 300) if place % 8 else nogood_plant(rng)
-    return weighed(rng, plant) if order is PRODUCTS else plant
-
-
 class Listings(unittest.TestCase):
     def check_random(self, rng, order, count):
-        seen, decided = set(), Counter()
+        seen = set()
         for place in range(count):
-            plant = listed_plant(rng, place, order)
+            plant = small_random_plant(rng, 300) if place % 4 else nogood_plant(rng)
+            if order is PRODUCTS:
+                plant = weighed(rng, plant)
             lists = []
             for _ in range(2):
                 settings = random_settings(rng, plant)
@@ -387,9 +378,6 @@ class Listings(unittest.TestCase):
                 seen.add((result.ending, result.struck_in_reduction))
                 lists.append(run_list(result))
             self.assertTrue(begins(*lists) or begins(*reversed(lists)))
-            decided.update(deciders(max(lists, key=len)))
-        for name in ("code", "departures", "against the code", "with the code"):
-            self.assertLess(count // 20, decided[name], name)
         endings = {("enough", False), ("all", False), ("full", False)}
         self.assertEqual(endings | {("spent", False), ("spent", True)}, seen)
 
@@ -527,16 +515,15 @@ class CheapestValues(unittest.TestCase):
     def test_best_state(self):
         """By brute force: of all states of a node its best state comes first."""
         rng = Random(11)
-        seen = Counter()
-        for place in range(600):
-            for order in (COSTS, PRODUCTS):
-                plant = listed_plant(rng, place, order)
-                self.check_best(rng, plant, order)
-                ranks = [list(map(order.rank, own)) for own in plant.costs]
-                seen[order, "tied"] += any(own.count(min(own)) > 1 for own in ranks)
-                seen[order, "out of 0"] += any(own[0] > min(own) for own in ranks)
-        for order, name in product((COSTS, PRODUCTS), ("tied", "out of 0")):
-            self.assertLess(100, seen[order, name], name)
+        tied = Counter()
+        for _ in range(500):
+            plant = small_random_plant(rng, 300)
+            self.check_best(rng, plant, COSTS)
+            tied["costs"] += any(costs.count(min(costs)) > 1 for costs in plant.costs)
+            plant = weighed(rng, plant)
+            self.check_best(rng, plant, PRODUCTS)
+            tied["weights"] += any(own.count(max(own)) > 1 for own in plant.costs)
+        self.assertLess(100, min(tied["costs"], tied["weights"]))
 
     def test_other_values(self):
         """Stored listings tell other values from the cheapest, and these from nothing."""
@@ -1112,89 +1099,6 @@ class Weights(unittest.TestCase):
         self.assertEqual([0x01 << 56, 0x10 << 56, 0x11 << 56, 0], settings.codes[:4])
 
 
-def written(plant, **numbers):
-    """Figures and codes listed, in words; the codes as in `products_of`."""
-    order = ORDERS[plant.edition.number]
-    pairs = run_list(listing(encode(plant), set_up(**numbers), order))
-    return " ".join(f"{own} {code:016x}"[: -16 + plant.decisions] for own, code in pairs)
-
-
-# In the state selector=1 both hidden variables are out of 0, in clutch=1 with pump=1 none.
-SELECTOR_TURNS = (Literal(0, 0, 0), Literal(3, 0, 2)), (Literal(0, 0, 0), Literal(4, 1, 0))
-
-
-class Departures(unittest.TestCase):
-    """Request L7: of equal figures fewest departures first, and only then the code."""
-
-    def test_request(self):
-        """Selector, clutch and pump: selector=1 alone before clutch=1 with pump=1."""
-        costs = (0, 4), (0, 2), (0, 2)
-        own = "0 000 2 001 2 010 4 100 4 011 6 101 6 110 8 111"
-        self.assertEqual(own, written(Plant(costs, (), ())))
-        weights = (16, 4), (16, 8), (16, 8)
-        own = "4096 000 2048 001 2048 010 1024 100 1024 011 512 101 512 110 256 111"
-        self.assertEqual(own, written(rows(*weights)))
-        result = listing(encode(Plant(costs, (), ())), set_up(k=5))
-        self.assertEqual([1 << 60, 0x11 << 52], result.codes[3:5])
-
-    def test_lists(self):
-        for costs, own in [
-            (((0, 2), (0, 2)), "0 00 2 01 2 10 4 11"),
-            (((0, 0), (0, 0)), "0 00 0 01 0 10 0 11"),
-            (((0, 0), (0, 0), (0, 0)), "0 000 0 001 0 010 0 100 0 011 0 101 0 110 0 111"),
-            (((0, 4, 2), (0, 2)), "0 00 2 01 2 20 4 10 4 21 6 11"),
-            (((0, 2, 4), (0, 2)), "0 00 2 01 2 10 4 20 4 11 6 21"),
-            (((2, 0), (2, 0)), "0 11 2 01 2 10 4 00"),
-            (((6, 2, 0), (2, 0)), "0 21 2 20 2 11 4 10 6 01 8 00"),
-            (((5, 5, 5),), "5 0 5 1 5 2"),
-        ]:
-            self.assertEqual(own, written(Plant(costs, (), ())), costs)
-        self.assertEqual("1 00 1 01 1 10 1 11", written(rows((1, 1), (1, 1))))
-        self.assertEqual("8 21 4 20 4 11 2 01 2 10 1 00", written(rows((1, 2, 4), (1, 2))))
-
-    def test_hidden(self):
-        """Hidden variables never count, nor do absent ones."""
-        for costs in (((0, 4), (0, 2), (0, 2)), ((2, 2), (0, 0), (0, 0))):
-            free, turning = Plant(costs, (), ()), Plant(costs, (3, 2), SELECTOR_TURNS)
-            self.assertEqual(written(free), written(turning))
-        self.assertEqual(16, departures_of_code(2**64 - 1))
-        self.assertEqual(3, departures_of_code(0x1F02 << 48))
-
-    def test_two_counts(self):
-        """Of a state and of its code the same, by each order."""
-        rng = Random(23)
-        for edition in (FIRST, SECOND):
-            counts = set()
-            for place in range(100):
-                plant = (laden_plant if place % 2 else departing_plant)(rng, edition)
-                state = random_assignment(rng, plant, 1.0)
-                count = departures_of_code(to_words(state)[1])
-                self.assertEqual(count, ORDERS[edition.number].departures(plant, state))
-                counts.add(count)
-            self.assertLess(edition.decisions_most // 2, len(counts))
-
-    def test_sixteen(self):
-        """As many departures as parts come behind one fewer, and may be the best."""
-        for edition, most in ((FIRST, 16), (SECOND, 8)):
-            for plant, own in [
-                (listing_cases.alike_plant(edition), [0, 1, most - 1, most]),
-                (listing_cases.brim_plant(edition), [most, most - 1, most]),
-            ]:
-                order = ORDERS[edition.number]
-                result = listing(encode(plant), set_up(k=len(own)), order)
-                self.assertEqual(own, list(map(departures_of_code, result.codes)))
-
-    def test_deciders(self):
-        def told(*digits):
-            return deciders([(3, int(own.ljust(16, "0"), 16)) for own in digits])
-
-        self.assertEqual(set(), told("1"))
-        self.assertEqual({"code"}, told("01", "1"))
-        self.assertEqual({"departures", "with the code"}, told("01", "11"))
-        self.assertEqual({"departures", "against the code"}, told("1", "011"))
-        self.assertEqual(set(), deciders([(2, 1), (3, 0)]))
-
-
 def zero_first(sheet):
     """A reader's refusal that takes bits past the end for zeros: 20 before 5."""
     numbers = [refusal_of(read_either, own) for own in (sheet, sheet + b"\0")]
@@ -1254,33 +1158,6 @@ class WeightImpostors(unittest.TestCase):
                 refused[call.kind] += refusal_of(read, call.sheet) == 6
         self.assertLess(0, min(taken[1], taken[2]))
         self.assertLess(10, min(refused[0], refused[1]))
-
-
-# It goes round by another way, and its lists are right.
-RIGHT_LISTS = "of assigned variables those out of 0"
-
-
-class DepartureImpostors(unittest.TestCase):
-    """Stored listings tell each of these from the right lister, in each call in which it
-    is another one; of lists demand 3's check complains as well."""
-
-    def test_other_departures(self):
-        told, complained = Counter(), Counter()
-        for run in listing_cases.departure_runs():
-            right, plant = listing_cases.answer_run(run), read_either(run.sheet)
-            settings = listing_cases.settings_of(run)
-            brute = prod(plant.sizes) <= 100_000
-            for name, lister in OTHER_DEPARTURES.items():
-                other = listing_cases.as_lister(run, lister)
-                if other != right:
-                    told[name, run.call] += 1
-                    complained[name] += brute and any(check_list(other, plant, settings))
-        for name, lister in OTHER_DEPARTURES.items():
-            for call, order in lister.orders.items():
-                same = type(order) is type(ORDERS[call]) and lister.kind is Run
-                self.assertEqual(same, told[name, call] == 0, (name, call))
-                self.assertTrue(same or told[name, call] > 1, (name, call))
-            self.assertEqual(name == RIGHT_LISTS, complained[name] == 0, name)
 
 
 class StoreImpostors(unittest.TestCase):
@@ -1523,30 +1400,6 @@ class Vectors(unittest.TestCase):
         for name in ("all", "enough", "full", "spent", "equal", "above 2^32", "around 2^63"):
             self.assertLess(3, seen[name], name)
         self.assertLess(0, min(seen["the greatest"], seen["offered"]))
-
-    def test_departures(self):
-        """What decides in the listings of each call, and how many departures they have."""
-        seen = Counter()
-        for run in listing_cases.departure_runs():
-            result, plant = listing_cases.answer_run(run), read_either(run.sheet)
-            pairs = run_list(result)
-            counts = [departures_of_code(code) for _, code in pairs]
-            own = {result.ending, *deciders(pairs), *counts}
-            own.add("offered" if run.held else "nothing offered")
-            own.add("several learned" if result.learned > 1 else "few learned")
-            if counts and counts[0] > 0:
-                own.add("first out of 0")
-            if any(any(shown_at(result.values, p)[plant.decisions :]) for p in range(len(pairs))):
-                own.add("hidden out of 0")
-            if any(digit > "9" for _, code in pairs for digit in f"{code:016x}"):
-                own.add("high values")
-            seen.update((run.call, name) for name in own)
-        names = ["code", "departures", "against the code", "with the code", "first out of 0"]
-        names += ["enough", "all", "full", "hidden out of 0", "high values", "offered"]
-        for call, name in product((1, 2), names + ["several learned"]):
-            self.assertLess(1, seen[call, name], (call, name))
-        self.assertLess(1, min(seen[1, 16], seen[1, 15], seen[2, 8], seen[2, 7]))
-        self.assertLess(1, seen[1, "spent"] + seen[2, "spent"])
 
     def test_calls(self):
         lines = {test_cases.call_line(call).split()[0] for call in test_cases.test_cases()}

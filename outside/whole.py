@@ -63,33 +63,14 @@ def cost_of_code(plant, code):
     return prod(own) if plant.edition == SECOND else sum(own)
 
 
-def departures_of_code(code):
-    """Its digits that are not 0: those of absent variables are."""
-    return sum(digit != "0" for digit in f"{code:016x}")
-
-
 @lru_cache(maxsize=256)
 def whole_set(plant):
-    """Pairs of cost and code, in the order cost, then fewest departures, then code; in
-    edition 2 of product and code, the greatest product first."""
+    """Pairs of cost and code, in the order cost, then code; in edition 2 of product
+    and code, the greatest product first."""
     codes = sorted(to_words(state)[1] for state in consistent_states(plant))
-    # What is equal in one sorting stays in the order of the one before.
-    codes.sort(key=departures_of_code)
     pairs = [(cost_of_code(plant, code), code) for code in codes]
+    # Where figures are equal, sorting leaves the codes in their order.
     return sorted(pairs, key=lambda pair: pair[0], reverse=plant.edition == SECOND)
-
-
-def deciders(pairs):
-    """What decided between neighbours of one figure in a list, by name."""
-    found = set()
-    for (figure, code), (next_figure, next_code) in zip(pairs, pairs[1:]):
-        if figure == next_figure:
-            if departures_of_code(code) == departures_of_code(next_code):
-                found.add("code")
-            else:
-                found.add("departures")
-                found.add("against the code" if code > next_code else "with the code")
-    return found
 
 
 def begins(short, long):

@@ -11,7 +11,7 @@ use Rattle.theory.specs.Words.{Words}
 
 -- the version of the exports: its three numbers, each but the first below 256
 abbrev pub version : ℕ
-version = 2 * 65536 + 0 * 256 + 0
+version = 1 * 65536 + 2 * 256 + 0
 
 -- ---- the listing
 

@@ -26,7 +26,7 @@ const TEST_WORDS: usize = 2;
 const SHORT: u32 = 2;
 
 // MAJOR, MINOR and PATCH of the header, a byte each from the third on.
-const VERSION: u32 = 131072;
+const VERSION: u32 = 66048;
 
 // The version of these exports, which the header has too.
 pub fn leading_version() -> u32

@@ -90,7 +90,7 @@ product_of = refl
 pub every_of : every (2 ∷ 3 ∷ []) ≡ (0 ∷ 0 ∷ []) ∷ (0 ∷ 1 ∷ []) ∷ (0 ∷ 2 ∷ []) ∷ (1 ∷ 0 ∷ []) ∷ (1 ∷ 1 ∷ []) ∷ (1 ∷ 2 ∷ []) ∷ []
 every_of = refl
 
--- costs 2, 0 and 0, 2, 1, no clauses: cost before code, and departures where the costs are equal
+-- costs 2, 0 and 0, 2, 1, no clauses: cost before code, and code where the costs are equal
 unfoldable pub crossed : Plant
 crossed = record { costs = (2 ∷ 0 ∷ []) ∷ (0 ∷ 2 ∷ 1 ∷ []) ∷ []; states = []; clauses = [] }
 

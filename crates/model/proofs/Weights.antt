@@ -1,4 +1,4 @@
--- Rows for edition 2: lists by the greatest product and, with as many departures, the lowest code, each ending, the whole set, and single definitions. Assumes nothing.
+-- Rows for edition 2: lists by the greatest product and then the lowest code, each ending, the whole set, and single definitions. Assumes nothing.
 use Rattle.std.specs.Prelude.{◌≡◌, refl, true, false, List, [], ◌∷◌, ◌++◌, map, ℕ}
 use Rattle.model.specs.Lists.{place, place_all}
 use Rattle.model.specs.Digits.{number}
@@ -74,7 +74,7 @@ weighings =
     -- the greatest product first: by sums 0 1 would come before 1 0, and by the least product the last first
     ∷ plain sums_differ 16 8 4 [] 1000
     gives lists all (0 ∷ 0x1000000000000000 ∷ 0x0100000000000000 ∷ 0x1100000000000000 ∷ []) (2000 ∷ 400 ∷ 100 ∷ 20 ∷ []) [] 4 0 0 0
-    -- of equal products with as many departures the lowest code, though the node of the other was queued first
+    -- of equal products the lowest code, though the node of the other was queued first
     ∷ plain products_tied 16 8 4 [] 1000
     gives lists all (0 ∷ 0x0100000000000000 ∷ 0x1000000000000000 ∷ 0x1100000000000000 ∷ []) (18 ∷ 12 ∷ 12 ∷ 8 ∷ []) [] 4 0 0 0
     -- a node's best state takes the greatest weight, here the last: {first = 1} comes before the states with the second at 0 or 1
@@ -164,7 +164,7 @@ pub weights-whole : whole_set weight_plant (order_of edition2 weight_plant) ≡
 unfolding whole_set leading_states place place_all is_consistent all_hold clause_holds literal_holds holds_at weight_plant small_plant edition2 order_of before number
 weights-whole = refl
 
--- weights 6, 4 and 3, 2, no clauses: of equal products with as many departures the lowest code
+-- weights 6, 4 and 3, 2, no clauses: of equal products the lowest code
 unfoldable pub tied_plant : Plant
 tied_plant = record { costs = (6 ∷ 4 ∷ []) ∷ (3 ∷ 2 ∷ []) ∷ []; states = []; clauses = [] }
 

@@ -71,15 +71,15 @@ abbrev pub departures : List ℕ → ℕ
 departures [] = 0
 departures (x ∷ f) = departs x + departures f
 
--- which of two full assignments of one figure comes first: the one with fewer departures, then the lower code as a number
+-- whether the one of two full assignments has fewer departures, or as many and the lower code as a number; `before` does not ask for departures
 abbrev pub first_of_equal : List ℕ → List ℕ → Bool
 first_of_equal f g = ltb (departures f) (departures g) || (eqb (departures f) (departures g) && ltb (code f) (code g))
 
--- which of two full assignments comes first: the better figure, and of one figure as just said
+-- which of two full assignments comes first: the better figure, then the lower code as a number
 unfoldable pub before : Order → List ℕ → List ℕ → Bool
-before o f g = better o.weighed (o.figure f) (o.figure g) || (eqb (o.figure f) (o.figure g) && first_of_equal f g)
+before o f g = better o.weighed (o.figure f) (o.figure g) || (eqb (o.figure f) (o.figure g) && ltb (code f) (code g))
 
--- the order of a plant's full assignments: of edition 1 by the least cost, of edition 2 by the greatest product; then, in both, by departures and code
+-- the order of a plant's full assignments: of edition 1 cost, then code; of edition 2 the greatest product, then code
 unfoldable pub order_of : Edition → Plant → Order
 order_of e p = record { preferred = map (best_value e.weighed) p.costs; figure = figure_of e.weighed p.costs; weighed = e.weighed }
 
@@ -94,7 +94,7 @@ abbrev pub value_or : ℕ → Option ℕ → ℕ
 value_or x none = x
 value_or x (some y) = y
 
--- the best state of a node: each unassigned variable at its preferred value. It comes before every other full assignment of the node: of equal figures the lowest value is preferred, so value 0 whenever it is among them
+-- the best state of a node: each unassigned variable at its preferred value
 abbrev pub best : List ℕ → Assignment → List ℕ
 best [] a = []
 best (x ∷ xs) [] = []

@@ -1,22 +1,20 @@
--- An entry tells its node, and entries come as their nodes do: the figure, the departures and the code of the best state stand in it above the mask, and the code keeps the node's values where the widened mask is set. Assumes nothing.
+-- An entry tells its node, and entries come as their nodes do: the figure and the code of the best state stand in it above the mask, and the code keeps the node's values where the widened mask is set. Assumes nothing.
 use mathlib.Core.Path.{◌≡◌, refl, sym, ap, ◌∙◌, subst}
 use mathlib.Core.Logic.{◌⊎◌, inl, inr}
 use mathlib.Core.Bool.{Bool, true, false, or-true}
 use mathlib.Core.List.{List}
 use Prim.Native.Nat.{ℕ, suc, ◌+◌, ◌-◌, ◌*◌, ◌/◌, ◌%◌, ◌^◌, ◌≤◌, ◌<◌}
 use native.Mathlib.Omega.{arith}
-use native.Mathlib.Nat.{suc-mul, mul-le-mul_right, add-mul, mul_comm, mul_assoc, mul-lt-mul_of_pos_right, mul-le-mul, div-add-mod, mod-lt, add-mul-mod_self_right, mod-eq_of_lt}
+use native.Mathlib.Nat.{suc-mul, mul-le-mul_right, add-mul, mul_comm, mul_assoc, mul-lt-mul_of_pos_right, div-add-mod, mod-lt, add-mul-mod_self_right, mod-eq_of_lt}
 use lib.Bits.{bit_and}
 use lib.Dec.{ltb}
 use lib.ListN.{length}
 use borrow.Author.Tests.{lt-ltb, eq-eqb}
 use Rattle.model.specs.Assignment.{Assignment, Fits, Valid, mask_of, values_of, assignment_of, code}
-use Rattle.model.specs.Digits.{digits}
-use Rattle.model.specs.Order.{Order, departures, best}
+use Rattle.model.specs.Order.{Order, best}
 use Rattle.theory.specs.Value.{Better}
 use Rattle.theory.specs.Words.{Words, wide_of}
 use Rattle.theory.proofs.Agreement.{valid_length, fits_length}
-use Rattle.theory.proofs.Departures.{departures-most, departures-code}
 use Rattle.theory.proofs.Digits.{trichotomy, number-below, number-low}
 use Rattle.theory.proofs.Figures.{fits_below}
 use Rattle.theory.proofs.Nodes.{best_in}
@@ -44,33 +42,18 @@ shifted-room x n m y p q l =
     let top : suc (x % n) * m ≤ n * m = mul-le-mul_right m (mod-lt x p) in
     omega (arith, shifted x n m p q, suc-mul (x % n) m)
 
--- five bits hold the departures of sixteen variables, wherever they begin
-out-whole : (out n : ℕ) → out ≤ 16 → n ≤ 2 ^ 59 → out * n % 2 ^ 64 ≡ out * n
-out-whole out n l h = mod-eq_of_lt (omega (arith, mul-le-mul l h))
-
--- the words have room for what is put in, whatever it is
-pub cost-room : (figure part code : ℕ) → part ≤ 2 ^ 43 → code < 2 ^ 64 → figure * 2 ^ 44 % 2 ^ 64 + part + code / 2 ^ 25 < 2 ^ 64
-cost-room figure part code l h =
-    let top : figure % 2 ^ 20 < 2 ^ 20 = mod-lt figure (omega arith) in
-    rw (shifted figure (2 ^ 20) (2 ^ 44) (omega arith) (omega arith)) (omega arith)
-
-pub product-room : (part half mask : ℕ) → part ≤ 2 ^ 63 → half < 2 ^ 59 → mask < 2 ^ 64 → part + half + mask / 2 ^ 48 < 2 ^ 64
-product-room part half mask l h k = omega arith
-
 -- the words that are made of a node's numbers are its entry's
-pub cost-words : (figure out code mask : ℕ) → figure < 2 ^ 20 → out ≤ 16
-    → (figure * 2 ^ 44 % 2 ^ 64 + out * 2 ^ 39 % 2 ^ 64 + code / 2 ^ 25, code * 2 ^ 39 % 2 ^ 64 + mask / 2 ^ 48) ≡ packed false figure out code mask
+pub cost-words : (figure code mask : ℕ) → figure < 2 ^ 20 → (figure * 2 ^ 44 % 2 ^ 64 + code / 2 ^ 25, code * 2 ^ 39 % 2 ^ 64 + mask / 2 ^ 48) ≡ packed false figure code mask
 unfolding packed
-cost-words figure out code mask h l =
+cost-words figure code mask h =
     let whole : figure * 2 ^ 44 % 2 ^ 64 ≡ figure * 2 ^ 44 = mod-eq_of_lt (omega arith) in
-    rw (whole, out-whole out (2 ^ 39) l (omega arith), shifted code (2 ^ 25) (2 ^ 39) (omega arith) (omega arith))
+    rw (whole, shifted code (2 ^ 25) (2 ^ 39) (omega arith) (omega arith))
 
-pub product-words : (figure out code mask : ℕ) → out ≤ 16 → code < 2 ^ 64
-    → (2 ^ 64 - 1 - figure, out * 2 ^ 59 % 2 ^ 64 + code / 2 ^ 32 * 2 ^ 27 % 2 ^ 64 + mask / 2 ^ 48) ≡ packed true figure out code mask
+pub product-words : (figure code mask : ℕ) → code < 2 ^ 64 → (2 ^ 64 - 1 - figure, code / 2 ^ 32 * 2 ^ 27 % 2 ^ 64 + mask / 2 ^ 48) ≡ packed true figure code mask
 unfolding packed
-product-words figure out code mask l h =
+product-words figure code mask h =
     let whole : code / 2 ^ 32 * 2 ^ 27 % 2 ^ 64 ≡ code / 2 ^ 32 * 2 ^ 27 = mod-eq_of_lt (omega arith) in
-    rw (out-whole out (2 ^ 59) l (omega arith), whole)
+    rw whole
 
 -- a code has room in an entry
 abbrev CodeFits : Bool → ℕ → Type 0
@@ -78,39 +61,31 @@ CodeFits false code = code < 2 ^ 64
 CodeFits true code = (code < 2 ^ 64) × (code % 2 ^ 32 ≡ 0)
 
 -- what was put in is read again
-packed-mask : (w : Bool) (figure out code mask : ℕ) → mask < 2 ^ 64 → mask % 2 ^ 48 ≡ 0 → mask_in (packed w figure out code mask).1 ≡ mask
+packed-mask : (w : Bool) (figure code mask : ℕ) → mask < 2 ^ 64 → mask % 2 ^ 48 ≡ 0 → mask_in (packed w figure code mask).1 ≡ mask
 unfolding packed
-packed-mask false figure out code mask h l = omega arith
-packed-mask true figure out code mask h l = omega arith
+packed-mask false figure code mask h l = omega arith
+packed-mask true figure code mask h l = omega arith
 
 -- the code's upper bits, shifted back: what stands above them goes out of the word
-upper-back : (above u : ℕ) → u < 2 ^ 39 → (above * 2 ^ 39 + u) * 2 ^ 25 % 2 ^ 64 ≡ u * 2 ^ 25
-upper-back above u h =
-    let whole : (above * 2 ^ 39 + u) * 2 ^ 25 ≡ u * 2 ^ 25 + above * 2 ^ 64 = omega arith in
-    rw (whole, add-mul-mod_self_right (u * 2 ^ 25) above (2 ^ 64)) (mod-eq_of_lt (omega arith))
+upper-back : (figure u : ℕ) → u < 2 ^ 39 → (figure * 2 ^ 44 + u) * 2 ^ 25 % 2 ^ 64 ≡ u * 2 ^ 25
+upper-back figure u h =
+    let whole : (figure * 2 ^ 44 + u) * 2 ^ 25 ≡ u * 2 ^ 25 + figure * 32 * 2 ^ 64 = omega arith in
+    rw (whole, add-mul-mod_self_right (u * 2 ^ 25) (figure * 32) (2 ^ 64)) (mod-eq_of_lt (omega arith))
 
 -- its lower bits
 lower-back : (u low : ℕ) → low < 2 ^ 39 → (u * 2 ^ 39 + low) / 2 ^ 39 ≡ u
 lower-back u low h = omega arith
 
--- of weights: what stands below the code goes by the division, what stands above it by the remainder
-half_back : (out u low : ℕ) → low < 2 ^ 27 → u < 2 ^ 32 → (out * 2 ^ 59 + u * 2 ^ 27 + low) / 2 ^ 27 * 2 ^ 32 % 2 ^ 64 ≡ u * 2 ^ 32
-half_back out u low h l =
-    let above : (out * 2 ^ 59 + u * 2 ^ 27 + low) / 2 ^ 27 ≡ out * 2 ^ 32 + u = omega arith in
-    let whole : (out * 2 ^ 32 + u) * 2 ^ 32 ≡ u * 2 ^ 32 + out * 2 ^ 64 = omega arith in
-    rw (above, whole, add-mul-mod_self_right (u * 2 ^ 32) out (2 ^ 64)) (mod-eq_of_lt (omega arith))
-
-packed-code : (w : Bool) (figure out code mask : ℕ) → CodeFits w code → mask < 2 ^ 64 → code_in w (packed w figure out code mask) ≡ code
+packed-code : (w : Bool) (figure code mask : ℕ) → CodeFits w code → mask < 2 ^ 64 → code_in w (packed w figure code mask) ≡ code
 unfolding packed
-packed-code false figure out code mask c h =
-    let top : figure * 2 ^ 44 + out * 2 ^ 39 + code / 2 ^ 25 ≡ (figure * 32 + out) * 2 ^ 39 + code / 2 ^ 25 = omega arith in
-    rw (top, upper-back (figure * 32 + out) (code / 2 ^ 25) (omega arith), lower-back (code % 2 ^ 25) (mask / 2 ^ 48) (omega arith)) (omega arith)
-packed-code true figure out code mask c h = rw (half_back out (code / 2 ^ 32) (mask / 2 ^ 48) (omega arith) (omega arith)) (omega arith)
+packed-code false figure code mask c h =
+    rw (upper-back figure (code / 2 ^ 25) (omega arith), lower-back (code % 2 ^ 25) (mask / 2 ^ 48) (omega arith)) (omega arith)
+packed-code true figure code mask c h = omega arith
 
-packed-figure : (w : Bool) (figure out code mask : ℕ) → FigureFits w figure → out ≤ 16 → CodeFits w code → figure_in w (packed w figure out code mask).0 ≡ figure
+packed-figure : (w : Bool) (figure code mask : ℕ) → FigureFits w figure → CodeFits w code → figure_in w (packed w figure code mask).0 ≡ figure
 unfolding packed
-packed-figure false figure out code mask f l c = omega arith
-packed-figure true figure out code mask f l c = omega arith
+packed-figure false figure code mask f c = omega arith
+packed-figure true figure code mask f c = omega arith
 
 -- of two entries the first words decide, or are equal and the second ones do
 by-words : (x y : Item) → (x.0 < y.0) ⊎ ((x.0 ≡ y.0) × (x.1 < y.1)) → comes_before x y ≡ true
@@ -118,41 +93,46 @@ unfolding comes_before
 by-words x y (inl l) = rw (lt-ltb x.0 y.0 l)
 by-words x y (inr h) = rw (eq-eqb x.0 y.0 h.0, lt-ltb x.1 y.1 h.1) (or-true (ltb x.0 y.0))
 
--- what decides between the entries of two nodes, from the figures, departures and codes of their best states
-abbrev FirstOf : Bool → (f o c g p d : ℕ) → Type 0
-FirstOf w f o c g p d = Better w f g ⊎ ((f ≡ g) × ((o < p) ⊎ ((o ≡ p) × (c < d))))
+-- the lower cost
+costs-before : (f c g d : ℕ) → f < g → c < 2 ^ 64 → (packed false f c 0).0 < (packed false g d 0).0
+unfolding packed
+costs-before f c g d l h = omega arith
 
--- one entry comes before another by its words
-abbrev WordsBefore : Item → Item → Type 0
-WordsBefore x y = (x.0 < y.0) ⊎ ((x.0 ≡ y.0) × (x.1 < y.1))
+-- of equal costs the lower upper part of the code
+upper-before : (f c m g d n : ℕ) → f ≡ g → c / 2 ^ 25 < d / 2 ^ 25 → (packed false f c m).0 < (packed false g d n).0
+unfolding packed
+upper-before f c m g d n e l = omega arith
 
--- of codes with one upper part the lower has the lower lower part
-lower-part : (c d m n : ℕ) → c < d → c / 2 ^ 25 ≡ d / 2 ^ 25 → m < 2 ^ 64 → c % 2 ^ 25 * 2 ^ 39 + m / 2 ^ 48 < d % 2 ^ 25 * 2 ^ 39 + n / 2 ^ 48
-lower-part c d m n l e h = omega arith
+-- and of equal upper parts the lower code
+lower-before : (f c m g d n : ℕ) → f ≡ g → c < d → c / 2 ^ 25 ≡ d / 2 ^ 25 → m < 2 ^ 64 → ((packed false f c m).0 ≡ (packed false g d n).0) × ((packed false f c m).1 < (packed false g d n).1)
+unfolding packed
+lower-before f c m g d n e l u h = (omega arith, omega arith)
 
-module _ (f o c m g p d n : ℕ) (ml : m < 2 ^ 64) (ol : o ≤ 16) (pl : p ≤ 16) where
-  -- of costs: the cost, the departures and the code's upper part stand in the first word, its lower part in the second
-  costs-before : c < 2 ^ 64 → FirstOf false f o c g p d → WordsBefore (packed false f o c m) (packed false g p d n)
-  unfolding packed
-  costs-before cl (inl l) = inl (omega arith)
-  costs-before cl (inr (e, inl l)) = inl (omega arith)
-  costs-before cl (inr (e, inr h)) = elim (trichotomy (c / 2 ^ 25) (d / 2 ^ 25)) [
-    | inl l ↦ inl (omega (arith, h.0))
-    | inr t ↦ inr (elim t [ inl u ↦ (omega (arith, h.0), lower-part c d m n h.1 u ml) | inr l ↦ absurd (omega (arith, h.1)) ])
-  ]
+-- the greater product
+products-before : (f g : ℕ) → g < f → g < 2 ^ 64 → f < 2 ^ 64 → (packed true f 0 0).0 < (packed true g 0 0).0
+unfolding packed
+products-before f g l h k = omega arith
 
-  -- of products: the product stands in the first word, the departures and the code in the second
-  products-before : f < 2 ^ 64 → CodeFits true c → CodeFits true d → FirstOf true f o c g p d → WordsBefore (packed true f o c m) (packed true g p d n)
-  unfolding packed
-  products-before fl cf df (inl l) = inl (omega arith)
-  products-before fl cf df (inr (e, inl l)) = inr (omega arith, omega (arith, cf.0, df.0))
-  products-before fl cf df (inr (e, inr h)) = inr (omega arith, omega (arith, h.0, h.1, cf.0, cf.1, df.0, df.1))
+-- of equal products the lower code
+halves-before : (f c m g d n : ℕ) → f ≡ g → c < d → c % 2 ^ 32 ≡ 0 → d % 2 ^ 32 ≡ 0 → m < 2 ^ 64 → ((packed true f c m).0 ≡ (packed true g d n).0) × ((packed true f c m).1 < (packed true g d n).1)
+unfolding packed
+halves-before f c m g d n e l u k h = (omega arith, omega arith)
 
--- a better figure comes first, of equal ones fewer departures, and of as many the lower code
-packed-before : (w : Bool) (f o c m g p d n : ℕ) → FigureFits w f → CodeFits w c → CodeFits w d → o ≤ 16 → p ≤ 16 → m < 2 ^ 64
-    → FirstOf w f o c g p d → comes_before (packed w f o c m) (packed w g p d n) ≡ true
-packed-before false f o c m g p d n ff cf df ol pl ml s = by-words (packed false f o c m) (packed false g p d n) (costs-before f o c m g p d n ml ol pl cf s)
-packed-before true f o c m g p d n ff cf df ol pl ml s = by-words (packed true f o c m) (packed true g p d n) (products-before f o c m g p d n ml ol pl ff cf df s)
+-- a better figure comes first, and of equal ones the lower code
+packed-before : (w : Bool) (f c m g d n : ℕ) → FigureFits w f → CodeFits w c → FigureFits w g → CodeFits w d → m < 2 ^ 64 → n < 2 ^ 64
+    → Better w f g ⊎ ((f ≡ g) × (c < d)) → comes_before (packed w f c m) (packed w g d n) ≡ true
+unfolding packed
+packed-before w f c m g d n ff cf gf df ml nl s = by-words (packed w f c m) (packed w g d n) (go w ff cf gf df s)
+  where
+    go : (w : Bool) → FigureFits w f → CodeFits w c → FigureFits w g → CodeFits w d → Better w f g ⊎ ((f ≡ g) × (c < d))
+        → ((packed w f c m).0 < (packed w g d n).0) ⊎ (((packed w f c m).0 ≡ (packed w g d n).0) × ((packed w f c m).1 < (packed w g d n).1))
+    go false ff cf gf df (inl l) = inl (costs-before f c g d l cf)
+    go false ff cf gf df (inr h) = elim (trichotomy (c / 2 ^ 25) (d / 2 ^ 25)) [
+      | inl l ↦ inl (upper-before f c m g d n h.0 l)
+      | inr t ↦ inr (elim t [ inl e ↦ lower-before f c m g d n h.0 h.1 e ml | inr l ↦ absurd (omega arith) ])
+    ]
+    go true ff cf gf df (inl l) = inl (products-before f g l gf ff)
+    go true ff cf gf df (inr h) = inr (halves-before f c m g d n h.0 h.1 cf.1 df.1 ml)
 
 -- ---- nodes
 
@@ -175,13 +155,6 @@ module _ (ss : List ℕ) (o : Order) (n : Assignment) (s : Suits ss o) (v : Vali
   pub state-code : CodeFits o.weighed (code state)
   state-code = code_fits ss o s state state_in
 
-  -- the word's departures are the best state's, and no more than sixteen
-  pub state-departures : departures (digits 16 16 (code state)) ≡ departures state
-  state-departures = departures-code state (fits_below 16 ss state s.small state_in) (omega (arith, fits_length ss state state_in, s.few))
-
-  pub state-few : departures state ≤ 16
-  state-few = omega (arith, departures-most state, fits_length ss state state_in, s.few)
-
   pub state-figure : FigureFits o.weighed (o.figure state)
   state-figure = s.figures state state_in
 
@@ -191,16 +164,16 @@ module _ (ss : List ℕ) (o : Order) (n : Assignment) (s : Suits ss o) (v : Vali
   -- the mask in a node's entry is the node's
   pub mask-back : mask_in (entry_of o n).1 ≡ mask_of n
   unfolding entry_of
-  mask-back = packed-mask o.weighed (o.figure state) (departures state) (code state) (mask_of n) (mask_below n) (mask_low n (omega (arith, valid_length ss n v, s.few)))
+  mask-back = packed-mask o.weighed (o.figure state) (code state) (mask_of n) (mask_below n) (mask_low n (omega (arith, valid_length ss n v, s.few)))
 
   -- the code and the figure are the best state's
   pub code-back : code_in o.weighed (entry_of o n) ≡ code state
   unfolding entry_of
-  code-back = packed-code o.weighed (o.figure state) (departures state) (code state) (mask_of n) state-code (mask_below n)
+  code-back = packed-code o.weighed (o.figure state) (code state) (mask_of n) state-code (mask_below n)
 
   pub figure-back : figure_in o.weighed (entry_of o n).0 ≡ o.figure state
   unfolding entry_of
-  figure-back = packed-figure o.weighed (o.figure state) (departures state) (code state) (mask_of n) state-figure state-few state-code
+  figure-back = packed-figure o.weighed (o.figure state) (code state) (mask_of n) state-figure state-code
 
   -- so the best state's code keeps the values where the widened mask is set
   pub state-words : Words n (mask_of n) (bit_and (code state) (wide_of (mask_of n)))
@@ -226,5 +199,5 @@ module _ (ss : List ℕ) (o : Order) (n : Assignment) (s : Suits ss o) (v : Vali
 pub suits_keyed : (ss : List ℕ) (o : Order) → Suits ss o → Keyed ss o
 unfolding entry_of
 suits_keyed ss o s m n vm vn t =
-    packed-before o.weighed _ _ _ (mask_of m) _ _ _ (mask_of n) (state-figure ss o m s vm) (state-code ss o m s vm) (state-code ss o n s vn) (state-few ss o m s vm) (state-few ss o n s vn) (mask_below m)
+    packed-before o.weighed _ _ (mask_of m) _ _ (mask_of n) (state-figure ss o m s vm) (state-code ss o m s vm) (state-figure ss o n s vn) (state-code ss o n s vn) (mask_below m) (mask_below n)
     ((before_sooner o (best o.preferred m) (best o.preferred n)).0 t)

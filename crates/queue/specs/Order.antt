@@ -2,21 +2,21 @@
 use Rattle.std.specs.Prelude.{◌≡◌, Bool, true, false, ◌&&◌, ◌||◌, List, ℕ, ◌+◌, ◌-◌, ◌*◌, ◌/◌, ◌%◌, ◌^◌, ◌≤◌, ◌<◌, ltb, eqb, length}
 use Rattle.model.specs.Lists.{All}
 use Rattle.model.specs.Assignment.{Assignment, Fits, Valid, mask_of, code}
-use Rattle.model.specs.Order.{Order, Before, departures, best}
+use Rattle.model.specs.Order.{Order, Before, best}
 
 -- an entry: its two words
 abbrev pub Item : Type 0
 Item = ℕ × ℕ
 
--- the two words of a node, from the figure, the departures and the code of its best state and from its mask: one number, in which first what the order goes by stands and at the end the mask's sixteen top bits.
--- Of edition 1: the cost (20 bits), the departures (5), the code (64); of edition 2: the product turned round (64), the departures (5), the code's upper half (32), which is all of it.
-unfoldable pub packed : Bool → (figure out code mask : ℕ) → Item
-packed false figure out code mask = (figure * 2 ^ 44 + out * 2 ^ 39 + code / 2 ^ 25, code % 2 ^ 25 * 2 ^ 39 + mask / 2 ^ 48)
-packed true figure out code mask = (2 ^ 64 - 1 - figure, out * 2 ^ 59 + code / 2 ^ 32 * 2 ^ 27 + mask / 2 ^ 48)
+-- the two words of a node, from the figure and the code of its best state and from its mask: one number, in which first what the order goes by stands and at the end the mask's sixteen top bits.
+-- Of edition 1: the cost (20 bits), five bits that are zero, the code (64); of edition 2: the product turned round (64), five bits that are zero, the code's upper half (32), which is all of it.
+unfoldable pub packed : Bool → (figure code mask : ℕ) → Item
+packed false figure code mask = (figure * 2 ^ 44 + code / 2 ^ 25, code % 2 ^ 25 * 2 ^ 39 + mask / 2 ^ 48)
+packed true figure code mask = (2 ^ 64 - 1 - figure, code / 2 ^ 32 * 2 ^ 27 + mask / 2 ^ 48)
 
 -- the entry of a node
 unfoldable pub entry_of : Order → Assignment → Item
-entry_of o n = packed o.weighed (o.figure (best o.preferred n)) (departures (best o.preferred n)) (code (best o.preferred n)) (mask_of n)
+entry_of o n = packed o.weighed (o.figure (best o.preferred n)) (code (best o.preferred n)) (mask_of n)
 
 -- what stands in an entry: its node's mask, and the code and the figure of the node's best state
 abbrev pub mask_in : ℕ → ℕ

@@ -1,8 +1,8 @@
 // The nodes that a listing has yet to expand: a queue in a slice that the caller lends, two words an entry. The caller
 // keeps n, the number of entries. `Holds` says that the first n entries are those of the model's queue; how they stand (a
 // binary heap) is known only here, and what stands beyond them is not said. An entry is one number in two words: first
-// what the order goes by, figure, departures and code of the node's best state, then the mask. So the queue compares two
-// words, for either edition; only how an entry is packed (`entry_of`, `code_in`, `figure_in`) knows which it is.
+// what the order goes by, figure and code of the node's best state, then the mask. So the queue compares two words, for
+// either edition; only how an entry is packed (`entry_of`, `code_in`, `figure_in`) knows which it is.
 #![tactic(auto)]
 
 ghost use Rattle.std.specs.Prelude.{◌≡◌, List, [], ◌∷◌, ℕ, ◌+◌, ◌-◌, ◌*◌, ◌≤◌, ◌<◌, length, get_or, set, replicate};
@@ -24,20 +24,16 @@ pub struct Entry {
     pub b: u64,
 }
 
-// Where the cost and the departures begin in the first word, with the upper bits of the code below them.
+// Where the cost begins in the first word, with the upper bits of the code below it.
 const COST_PLACE: u64 = 44;
-
-const DEPARTURES_PLACE: u64 = 39;
 
 // The lower bits of the code, which stand in the second word, and where they begin there.
 const CODE_LOW: u64 = 25;
 
 const CODE_PLACE: u64 = 39;
 
-// Of weights: the lower bits of the code, all zero, and where the departures and the upper bits begin in the second word.
+// Of weights: the lower bits of the code, all zero, and where the upper ones begin in the second word.
 const WEIGHED_LOW: u64 = 32;
-
-const WEIGHED_DEPARTURES_PLACE: u64 = 59;
 
 const WEIGHED_PLACE: u64 = 27;
 
@@ -52,17 +48,14 @@ pub fn entry_of(mask: u64, best_code: u64, figure: u64, weighed: bool) -> Entry
     ensures { (ss : List ℕ) (o : Order) (n : Assignment) → Suits ss o → weighed ≡ o.weighed → Valid ss n → mask ≡ mask_of n → best_code ≡ code (best o.preferred n) → figure ≡ o.figure (best o.preferred n) → (result.a, result.b) ≡ entry_of o n }
 {
     let low = mask >> MASK_LOW;
-    let out = words::departures(best_code) as u64;
     if weighed {
         return Entry {
             a: GREATEST - figure,
-            b: (out << WEIGHED_DEPARTURES_PLACE)
-                + ((best_code >> WEIGHED_LOW) << WEIGHED_PLACE)
-                + low,
+            b: ((best_code >> WEIGHED_LOW) << WEIGHED_PLACE) + low,
         };
     }
     Entry {
-        a: (figure << COST_PLACE) + (out << DEPARTURES_PLACE) + (best_code >> CODE_LOW),
+        a: (figure << COST_PLACE) + (best_code >> CODE_LOW),
         b: (best_code << CODE_PLACE) + low,
     }
 }

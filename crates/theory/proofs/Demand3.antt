@@ -11,27 +11,23 @@ use lib.Dec.{ltb}
 use lib.ListN.{length, get_or, take, replicate, length-map}
 use Rattle.model.specs.Lists.{Some, Mem, All, Pairs, Begins, filled, in_turn}
 use Rattle.model.specs.Sheet.{Plant, Read, got, Edition, edition_of, read_sheet, decision_sizes, sizes}
-use Rattle.model.specs.Digits.{digits}
 use Rattle.model.specs.Assignment.{Assignment, code, full}
 use Rattle.model.specs.Conflict.{Conflict}
-use Rattle.model.specs.Order.{Order, departures, Before, order_of, Entry, entry_of, leading_states, whole_set}
+use Rattle.model.specs.Order.{Order, Before, order_of, Entry, entry_of, leading_states, whole_set}
 use Rattle.model.specs.Listing.{State, Ending, ended}
 use Rattle.model.specs.Calls.{Ground, first_given, odd, refused, Buffers, host_grounds, offers_of, state_bytes, value_bytes, entry_words, buffers_after, counts_of, entries_of, run_list, called_of, run_of, listing_with}
 use Rattle.theory.specs.BestFirst.{Inv}
 use Rattle.theory.specs.Plant.{Accepted, Sized}
-use Rattle.theory.specs.Order.{InOrder, In, Lawful}
+use Rattle.theory.specs.Order.{In, Lawful}
 use Rattle.theory.specs.Store.{offered_in, Remembered, FromOffers}
 use Rattle.theory.specs.Run.{Good, Stored, Overfull, Done}
 use Rattle.theory.specs.Demand3.{Demand3, Promised}
-use Rattle.theory.proofs.Lists.{at-member, all-at, all_map, all_image, or_neither, pairs-at}
-use Rattle.theory.proofs.Agreement.{fits_length}
-use Rattle.theory.proofs.Departures.{departures-code}
-use Rattle.theory.proofs.Figures.{fits_below}
+use Rattle.theory.proofs.Lists.{at-member, all-at, all_map, all_image, or_neither}
 use Rattle.theory.proofs.Filled.{filled_take, filled-drop, filled_at}
 use Rattle.theory.proofs.BestFirst.{listed-first, listed-all}
 use Rattle.theory.proofs.BruteForce.{is-consistent}
 use Rattle.theory.proofs.Whole.{leading_sound, leading_complete, leading_ascending}
-use Rattle.theory.proofs.Order.{code_injective, before_sooner, edition-lawful}
+use Rattle.theory.proofs.Order.{code_injective, edition-lawful}
 use Rattle.theory.proofs.Sheet.{accepted_any}
 use Rattle.theory.proofs.Value.{edition-few}
 use Rattle.theory.proofs.Test.{accepted-present}
@@ -116,16 +112,6 @@ module _ (p : Plant) (o : Order) (law : Lawful (decision_sizes p) o) (short : le
         go (inl m) = earlier [] (Before o) law.irreflexive law.transitive f s.listed search.ascending m i h r
         go (inr q) = absurd (law.irreflexive f (law.transitive f (get_or s.listed i []) f r (all-at [] (λ x. Before o x f) s.listed (search.before f q) i h)))
 
-    -- the words of two places are in the order, since their states are
-    words-ordered : (i j : ℕ) → i < j → j < length s.listed
-        → InOrder o.weighed (o.figure (get_or s.listed i [])) (code (get_or s.listed i [])) (o.figure (get_or s.listed j [])) (code (get_or s.listed j []))
-    words-ordered i j h l =
-        rw (out i (omega arith), out j l) ((before_sooner o (get_or s.listed i []) (get_or s.listed j [])).0 (pairs-at [] (Before o) s.listed search.ascending i j h l))
-      where
-        out : (i : ℕ) → i < length s.listed → departures (digits 16 16 (code (get_or s.listed i []))) ≡ departures (get_or s.listed i [])
-        out i h = let fits = (state-at i h).0 in
-            departures-code (get_or s.listed i []) (fits_below 16 (decision_sizes p) _ small fits) (omega (arith, fits_length (decision_sizes p) (get_or s.listed i []) fits))
-
     -- the store at its end
     abbrev store : Stored p survivors s.learned s.store
     store = done.kept.store
@@ -146,14 +132,6 @@ module _ (p : Plant) (o : Order) (law : Lawful (decision_sizes p) o) (short : le
       struck-spent = done.struck-spent;
       spent_why = done.spent_why;
       states = λ i h. (get_or s.listed i [], state-at i h, filled_at code s.listed b.codes [] i h, filled_at o.figure s.listed b.costs [] i h);
-      in_order = λ i j h l.
-          let m : i < length s.listed = omega arith in
-          rw (
-            filled_at o.figure s.listed b.costs [] i m,
-            filled_at code s.listed b.codes [] i m,
-            filled_at o.figure s.listed b.costs [] j l,
-            filled_at code s.listed b.codes [] j l,
-          ) (words-ordered i j h l);
       gapless = λ i h f g gf gg q r.
           let same : get_or s.listed i [] ≡ g = code_injective (decision_sizes p) (get_or s.listed i []) g short small (state-at i h).0 gg.0
           (sym (filled_at code s.listed b.codes [] i h) ∙ q) in

@@ -1,4 +1,4 @@
--- The order by figure, then departures, then code, and that it is lawful for either edition. Assumes nothing.
+-- The order by figure and then by code, and that it is lawful for either edition. Assumes nothing.
 use mathlib.Core.Path.{◌≡◌, refl, sym, ◌∙◌}
 use mathlib.Core.Logic.{◌⊎◌, inl, inr, ◌↔◌}
 use mathlib.Core.Bool.{Bool, true, false, ◌&&◌, ◌||◌, or-true, false≢true}
@@ -13,7 +13,7 @@ use borrow.Author.Tests.{ltb-true, eqb-true, lt-ltb, eq-eqb}
 use Rattle.model.specs.Lists.{All}
 use Rattle.model.specs.Sheet.{Plant, edition_of, decision_sizes}
 use Rattle.model.specs.Assignment.{Fits, code}
-use Rattle.model.specs.Order.{Order, better, figure_of, departures, first_of_equal, before, best_value, order_of, Before}
+use Rattle.model.specs.Order.{Order, better, figure_of, before, best_value, order_of, Before}
 use Rattle.theory.specs.Digits.{Below, Lex}
 use Rattle.theory.specs.Plant.{Sized, Accepted}
 use Rattle.theory.specs.Order.{Lawful}
@@ -21,7 +21,6 @@ use Rattle.theory.specs.Value.{Better, BestValue}
 use Rattle.theory.proofs.Lists.{all_map, all_image}
 use Rattle.theory.proofs.Digits.{lex_exactly, number_injective, number-set, trichotomy}
 use Rattle.theory.proofs.Agreement.{fits_length, fits-at}
-use Rattle.theory.proofs.Departures.{lower-departs}
 use Rattle.theory.proofs.Figures.{NoZero, fits_below, others, others-positive, figure-better, figure-same}
 use Rattle.theory.proofs.Value.{better-true, value-best, values-best, edition-weighed, edition-few}
 
@@ -36,58 +35,47 @@ module _ (ss f g : List ℕ) (short : length ss ≤ 16) (small : All (λ s. s �
   pub code_injective : code f ≡ code g → f ≡ g
   code_injective = number_injective 16 16 f g (omega arith) (fits_below 16 ss f small h) (fits_below 16 ss g small k) (fits_length ss f h ∙ sym (fits_length ss g k)) (omega (arith, fits_length ss f h))
 
--- ---- figure, then departures, then code
+-- ---- figure, then code
 
--- f comes before g by a key, the better one first, or the keys are equal and it does by the rest
-abbrev pub FirstBy : Bool → (List ℕ → ℕ) → (List ℕ → List ℕ → Type 0) → List ℕ → List ℕ → Type 0
-FirstBy w key Rest f g = Better w (key f) (key g) ⊎ ((key f ≡ key g) × Rest f g)
-
--- of one figure: f has fewer departures, or as many and the lower code
-abbrev pub FirstOfEqual : List ℕ → List ℕ → Type 0
-FirstOfEqual f g = FirstBy false departures (λ (x y : List ℕ). code x < code y) f g
-
--- f has the better figure, or the same and comes first of equal ones
+-- f has the better figure, or the same and the lower code
 abbrev pub Sooner : Order → List ℕ → List ℕ → Type 0
-Sooner o f g = FirstBy o.weighed o.figure FirstOfEqual f g
+Sooner o f g = Better o.weighed (o.figure f) (o.figure g) ⊎ ((o.figure f ≡ o.figure g) × (code f < code g))
 
--- the test of two figures says which is better
+-- the test of two figures holds where one is better
 is-better : (w : Bool) (a b : ℕ) → Better w a b → better w a b ≡ true
 is-better false a b h = lt-ltb a b h
 is-better true a b h = lt-ltb b a h
 
-better_exactly : (w : Bool) (a b : ℕ) → (better w a b ≡ true) ↔ Better w a b
-better_exactly w a b = (better-true w a b, is-better w a b)
-
-equal_exactly : (a b : ℕ) → (eqb a b ≡ true) ↔ (a ≡ b)
-equal_exactly a b = (eqb-true a b, eq-eqb a b)
-
--- a test that asks the one, or the other two together, says that exactly
-either_exactly : {A B C : Type 0} (s t u : Bool) → ((s ≡ true) ↔ A) → ((t ≡ true) ↔ B) → ((u ≡ true) ↔ C) → ((s || (t && u)) ≡ true) ↔ (A ⊎ (B × C))
-either_exactly {A} {B} {C} s t u a b c = (to s t u a.0 b.0 c.0, from s t u a.1 b.1 c.1)
+-- the test of the order says that exactly
+pub before_exactly : (o : Order) (f g : List ℕ) → (before o f g ≡ true) ↔ Sooner o f g
+unfolding before
+before_exactly o f g = (to (better w x y) (eqb x y) (ltb (code f) (code g)) (better-true w x y) (eqb-true _ _) (ltb-true _ _), from)
   where
-    to : {A B C : Type 0} (s t u : Bool) → (s ≡ true → A) → (t ≡ true → B) → (u ≡ true → C) → (s || (t && u)) ≡ true → A ⊎ (B × C)
+    w : Bool
+    w = o.weighed
+
+    x : ℕ
+    x = o.figure f
+
+    y : ℕ
+    y = o.figure g
+
+    to : (s t u : Bool) → (s ≡ true → Better o.weighed (o.figure f) (o.figure g)) → (t ≡ true → o.figure f ≡ o.figure g) → (u ≡ true → code f < code g) → (s || (t && u)) ≡ true → Sooner o f g
     to true t u a b c e = inl (a refl)
     to false true true a b c e = inr (b refl, c refl)
     to false true false a b c e = absurd (false≢true e)
     to false false u a b c e = absurd (false≢true e)
 
-    from : {A B C : Type 0} (s t u : Bool) → (A → s ≡ true) → (B → t ≡ true) → (C → u ≡ true) → A ⊎ (B × C) → (s || (t && u)) ≡ true
-    from s t u a b c (inl x) = rw (a x)
-    from s t u a b c (inr x) = rw (b x.0, c x.1) (or-true s)
-
--- the test of the order says that exactly
-pub before_exactly : (o : Order) (f g : List ℕ) → (before o f g ≡ true) ↔ Sooner o f g
-unfolding before
-before_exactly o f g =
-    either_exactly (better o.weighed (o.figure f) (o.figure g)) (eqb (o.figure f) (o.figure g)) (first_of_equal f g) (better_exactly o.weighed (o.figure f) (o.figure g)) (equal_exactly (o.figure f) (o.figure g))
-    (either_exactly (ltb (departures f) (departures g)) (eqb (departures f) (departures g)) (ltb (code f) (code g)) (better_exactly false (departures f) (departures g)) (equal_exactly (departures f) (departures g)) (better_exactly false (code f) (code g)))
+    from : Sooner o f g → (better o.weighed (o.figure f) (o.figure g) || (eqb (o.figure f) (o.figure g) && ltb (code f) (code g))) ≡ true
+    from (inl l) = rw (is-better o.weighed (o.figure f) (o.figure g) l)
+    from (inr h) = rw (eq-eqb (o.figure f) (o.figure g) h.0, lt-ltb (code f) (code g) h.1) (or-true (better o.weighed (o.figure f) (o.figure g)))
 
 -- a test that holds is true
 pub holds : (b : Bool) → T b ↔ (b ≡ true)
 holds true = ((λ t. refl), (λ e. tt))
 holds false = ((λ t. absurd t), (λ e. absurd (false≢true e)))
 
--- f comes before g exactly if it has the better figure, or the same and fewer departures, or as many of these and the lower code
+-- f comes before g exactly if it has the better figure, or the same and the lower code
 pub before_sooner : (o : Order) (f g : List ℕ) → Before o f g ↔ Sooner o f g
 before_sooner o f g = ((λ t. (before_exactly o f g).0 ((holds (before o f g)).0 t)), (λ s. (holds (before o f g)).1 ((before_exactly o f g).1 s)))
 
@@ -107,52 +95,30 @@ pub better-total : (w : Bool) (a b : ℕ) → Better w a b ⊎ ((a ≡ b) ⊎ Be
 better-total false a b = trichotomy a b
 better-total true a b = elim (trichotomy b a) [ inl l ↦ inl l | inr m ↦ inr (elim m [ inl e ↦ inl (sym e) | inr l ↦ inr l ]) ]
 
--- ---- by a key, then by the rest
-
-module _ (w : Bool) (key : List ℕ → ℕ) (Rest : List ℕ → List ℕ → Type 0) where
+module _ (o : Order) where
   -- nothing comes before itself
-  by-irreflexive : ((f : List ℕ) → Rest f f → ⊥) → (f : List ℕ) → FirstBy w key Rest f f → ⊥
-  by-irreflexive rest f (inl l) = same_no_better w (key f) l
-  by-irreflexive rest f (inr h) = rest f h.1
+  irreflexive : (f : List ℕ) → Sooner o f f → ⊥
+  irreflexive f (inl l) = same_no_better o.weighed (o.figure f) l
+  irreflexive f (inr h) = omega arith
 
   -- what comes before something comes before what that comes before
-  by-transitive : ((f g h : List ℕ) → Rest f g → Rest g h → Rest f h) → (f g h : List ℕ) → FirstBy w key Rest f g → FirstBy w key Rest g h → FirstBy w key Rest f h
-  by-transitive rest f g h (inl a) (inl b) = inl (better_trans w (key f) (key g) (key h) a b)
-  by-transitive rest f g h (inl a) (inr b) = inl (rw b.0 at a)
-  by-transitive rest f g h (inr a) (inl b) = inl (rw a.0 b)
-  by-transitive rest f g h (inr a) (inr b) = inr (a.0 ∙ b.0, rest f g h a.1 b.1)
+  transitive : (f g h : List ℕ) → Sooner o f g → Sooner o g h → Sooner o f h
+  transitive f g h (inl a) (inl b) = inl (better_trans o.weighed (o.figure f) (o.figure g) (o.figure h) a b)
+  transitive f g h (inl a) (inr b) = inl (rw b.0 at a)
+  transitive f g h (inr a) (inl b) = inl (rw a.0 b)
+  transitive f g h (inr a) (inr b) = inr (a.0 ∙ b.0, omega arith)
 
   -- of two lists one comes first, or they have one code
-  by_total : (f g : List ℕ) → Rest f g ⊎ ((code f ≡ code g) ⊎ Rest g f) → FirstBy w key Rest f g ⊎ ((code f ≡ code g) ⊎ FirstBy w key Rest g f)
-  by_total f g = go (better-total w (key f) (key g))
+  total : (f g : List ℕ) → Sooner o f g ⊎ ((code f ≡ code g) ⊎ Sooner o g f)
+  total f g = go (better-total o.weighed (o.figure f) (o.figure g)) (trichotomy (code f) (code g))
     where
-      go : Better w (key f) (key g) ⊎ ((key f ≡ key g) ⊎ Better w (key g) (key f)) → Rest f g ⊎ ((code f ≡ code g) ⊎ Rest g f) → FirstBy w key Rest f g ⊎ ((code f ≡ code g) ⊎ FirstBy w key Rest g f)
+      go : Better o.weighed (o.figure f) (o.figure g) ⊎ ((o.figure f ≡ o.figure g) ⊎ Better o.weighed (o.figure g) (o.figure f)) → (code f < code g) ⊎ ((code f ≡ code g) ⊎ (code g < code f))
+          → Sooner o f g ⊎ ((code f ≡ code g) ⊎ Sooner o g f)
       go (inl l) t = inl (inl l)
       go (inr (inr l)) t = inr (inr (inl l))
       go (inr (inl e)) (inl l) = inl (inr (e, l))
       go (inr (inl e)) (inr (inl d)) = inr (inl d)
       go (inr (inl e)) (inr (inr l)) = inr (inr (inr (sym e, l)))
-
--- so of equal figures
-equal-irreflexive : (f : List ℕ) → FirstOfEqual f f → ⊥
-equal-irreflexive = by-irreflexive false departures (λ (x y : List ℕ). code x < code y) (λ f h. omega arith)
-
-equal-transitive : (f g h : List ℕ) → FirstOfEqual f g → FirstOfEqual g h → FirstOfEqual f h
-equal-transitive = by-transitive false departures (λ (x y : List ℕ). code x < code y) (λ f g h a b. omega arith)
-
-equal-total : (f g : List ℕ) → FirstOfEqual f g ⊎ ((code f ≡ code g) ⊎ FirstOfEqual g f)
-equal-total f g = by_total false departures (λ (x y : List ℕ). code x < code y) f g (trichotomy (code f) (code g))
-
--- and of any
-module _ (o : Order) where
-  irreflexive : (f : List ℕ) → Sooner o f f → ⊥
-  irreflexive = by-irreflexive o.weighed o.figure FirstOfEqual equal-irreflexive
-
-  transitive : (f g h : List ℕ) → Sooner o f g → Sooner o g h → Sooner o f h
-  transitive = by-transitive o.weighed o.figure FirstOfEqual equal-transitive
-
-  total : (f g : List ℕ) → Sooner o f g ⊎ ((code f ≡ code g) ⊎ Sooner o g f)
-  total f g = by_total o.weighed o.figure FirstOfEqual f g (equal-total f g)
 
 -- ---- one variable at its best value
 
@@ -167,14 +133,7 @@ lower-code f v q s l h =
     let w : ℕ = 16 ^ (15 - v) in
     omega (arith, number-set 16 16 v (15 - v) q f (omega arith) l, mul-le-mul_right w h, suc-mul q w, one-le-pow (15 - v) 16 (omega arith))
 
--- and no more departures: a value above another is not 0. So of equal figures the lower value comes first
-lower-first : (f : List ℕ) (v q : ℕ) → length f ≤ 16 → v < length f → q < get_or f v 0 → FirstOfEqual (set f v q) f
-lower-first f v q s l h = elim (trichotomy (departures (set f v q)) (departures f)) [
-  | inl m ↦ inl m
-  | inr m ↦ inr (elim m [ inl e ↦ (e, lower-code f v q s l h) | inr n ↦ absurd (omega (arith, lower-departs f v q l h)) ])
-]
-
--- to give a variable its best value betters the whole, or changes nothing: of values with equal figures the best one is the lowest, and value 0 whenever it is among them
+-- to give a variable its best value betters the whole, or changes nothing
 betters : (o : Order) (rows : List (List ℕ)) → o.figure ≡ figure_of o.weighed rows → (f : List ℕ) (v q : ℕ) → length rows ≤ 16 → Fits (map length rows) f → v < length rows
     → (o.weighed ≡ true → 0 < others true rows f v) → BestValue (Better o.weighed) (get_or rows v []) q → (set f v q ≡ f) ⊎ Sooner o (set f v q) f
 betters o rows is f v q s h l z best = go (better-total o.weighed (get_or row q 0) (get_or row (get_or f v 0) 0)) (trichotomy q (get_or f v 0))
@@ -195,13 +154,13 @@ betters o rows is f v q s h l z best = go (better-total o.weighed (get_or row q 
         → (q < get_or f v 0) ⊎ ((q ≡ get_or f v 0) ⊎ (get_or f v 0 < q)) → (set f v q ≡ f) ⊎ Sooner o (set f v q) f
     go (inl b) t = inr (inl (rw is (figure-better o.weighed rows f v q long l z b)))
     go (inr (inr b)) t = absurd (best.none-better (get_or f v 0) within b)
-    go (inr (inl e)) (inl m) = inr (inr (rw is (figure-same o.weighed rows f v q long l e), lower-first f v q (omega (arith, long)) (omega (arith, long)) m))
+    go (inr (inl e)) (inl m) = inr (inr (rw is (figure-same o.weighed rows f v q long l e), lower-code f v q (omega (arith, long)) (omega (arith, long)) m))
     go (inr (inl e)) (inr (inl d)) = inl (rw d (set-get_or f v 0))
     go (inr (inl e)) (inr (inr m)) = absurd (same_no_better o.weighed (get_or (get_or rows v []) (get_or f v 0) 0) (rw e at (best.lower-worse (get_or f v 0) m)))
 
 -- ---- the order of a plant
 
--- the order by figure, departures and code is lawful for the plants of either edition, also where there is no decision variable
+-- the order by figure and then by code is lawful for the plants of either edition, also where there is no decision variable
 pub edition-lawful : (w : Bool) (p : Plant) → Accepted (edition_of w) p → Lawful (decision_sizes p) (order_of (edition_of w) p)
 unfolding order_of
 edition-lawful w p a = record {

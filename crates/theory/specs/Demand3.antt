@@ -7,7 +7,6 @@ use Rattle.model.specs.Conflict.{Conflict, Minimal, manifests}
 use Rattle.model.specs.Order.{Order, Before, order_of, product, entry_of, whole_set}
 use Rattle.model.specs.Listing.{Ending, enough, all, most_tested}
 use Rattle.model.specs.Calls.{refused, answered, Buffers, Counts, ran, unfinished, Answer, Called, offers_of, state_bytes, entry_words, run_list}
-use Rattle.theory.specs.Order.{InOrder}
 use Rattle.theory.specs.Store.{Among, offered_in, Remembered}
 use Rattle.theory.specs.Run.{strikes, Good, Overfull}
 use Rattle.theory.specs.Shown.{ShownAt}
@@ -43,8 +42,6 @@ pub record Demand3 (p : Plant) (o : Order) (k : ℕ) (before : Buffers) (held li
   pub spent_why : e ≡ Ending.spent → (c.trials ≡ limit) ⊎ (c.tested ≡ most_tested)
   -- each place holds the code of a full consistent assignment with its cost, or with its product
   pub states : (i : ℕ) → i < c.listed → (f : List ℕ) × Good p f × (get_or after.codes i 0 ≡ code f) × (get_or after.costs i 0 ≡ o.figure f)
-  -- of two places the earlier has the better figure, of one figure fewer departures, and of as many the lower code
-  pub in_order : (i j : ℕ) → i < j → j < c.listed → InOrder o.weighed (get_or after.costs i 0) (get_or after.codes i 0) (get_or after.costs j 0) (get_or after.codes j 0)
   -- no full consistent assignment stands before the first or between neighbours: one that comes before the state at a place stands at an earlier place
   pub gapless : (i : ℕ) → i < c.listed → (f g : List ℕ) → Good p f → Good p g → get_or after.codes i 0 ≡ code g → Before o f g
       → (j : ℕ) × (j < i) × (get_or after.codes j 0 ≡ code f)
