@@ -1,6 +1,7 @@
 // What a plant and a call may have at most, by name, and a byte as an index. The lengths of tables that are made for the
 // largest plant stand with those tables. The definitions have the same names: `most_listed` is MOST_LISTED.
 #![tactic(auto)]
+
 ghost use Rattle.std.specs.Prelude.{◌≡◌};
 
 // Decision variables, and those of a sheet whose figures are weights.

@@ -8,13 +8,12 @@ use native.Mathlib.Omega.{arith}
 use lib.ListN.{length, get_or, take, length-map}
 use Rattle.model.specs.Lists.{All, filled}
 use Rattle.model.specs.Digits.{digits}
-use Rattle.model.specs.Sheet.{Plant, Read, got, edition_of, read_sheet, decision_sizes}
+use Rattle.model.specs.Sheet.{Plant, Read, edition_of, read_sheet, decision_sizes}
 use Rattle.model.specs.Assignment.{Fits, code}
 use Rattle.model.specs.Order.{Order, figure_of, order_of}
 use Rattle.model.specs.Listing.{State, Ending, ended}
 use Rattle.model.specs.Calls.{Buffers, Counts, first_given, host_grounds, buffers_after, run_of, called_of, refusing, answered, ran, listing_with, listing_call}
 use Rattle.theory.specs.Plant.{Accepted}
-use Rattle.theory.specs.Run.{Done}
 use Rattle.theory.specs.Words.{sixteens}
 use Rattle.theory.specs.Demand3.{PromisedBy}
 use Rattle.theory.proofs.Lists.{all_map}
@@ -30,7 +29,7 @@ use Rattle.refusal.specs.Refusal.{refusal_of, ground_number}
 use Rattle.judge.specs.Standing.{ending_of}
 use Rattle.listing.specs.declared.Answer.{Answer as Answers}
 use Rattle.listing.specs.declared.Ran.{Ran}
-use Rattle.listing.specs.Listing.{buffers, counts_of, answer_of, CalledAs}
+use Rattle.listing.specs.Listing.{buffers, answer_of, CalledAs}
 use Rattle.listing_call.specs.Calls.{shown, Promises}
 use Rattle.listing_call.specs.Listed.{RefusedOn, RanOn}
 use Rattle.listing_call.proofs.Refusing.{fit, room_of, figures-room}

@@ -1,5 +1,5 @@
 -- Rows for tables: the sheet that is written of them, each ground of refusal alone and before the next, the tables that are read, and every lent word. Assumes nothing.
-use Rattle.std.specs.Prelude.{◌≡◌, refl, List, [], ◌∷◌, ◌++◌, map, ℕ, length, replicate}
+use Rattle.std.specs.Prelude.{◌≡◌, refl, List, [], ◌∷◌, ◌++◌, map, ℕ, replicate}
 use Rattle.model.specs.Digits.{number, digits}
 use Rattle.model.specs.Sheet.{bit_at, bits_at, then, many, field, edition1, edition2, decisions_allowed, read_figure, read_decision, read_state, read_literal, read_clause, read_filler, read_end, read_body, read_sheet}
 use Rattle.model.specs.Calls.{Refusal, by_host, by_author, first_given, refused}

@@ -2,7 +2,6 @@
 use Rattle.std.specs.Prelude.{◌≡◌, refl, List, [], ◌∷◌, map, ℕ, ◌/◌, length}
 use Rattle.model.specs.Digits.{digits}
 use Rattle.model.specs.Listing.{enough, all, full, Ending}
-use Rattle.model.specs.Calls.{Counts}
 use Rattle.model.specs.Text.{bytes, decimal, hexadecimal, state_line, state_lines, ending_word, counts_line, ending_line, refusal_line, answer_text, wanted_states, trial_limit, program_buffers, leading_text}
 use Rattle.model.proofs.Examples.{call, tail, small, empty_clause, seventeen}
 

@@ -1,6 +1,6 @@
 -- Rows for edition 2: the refusals of its listing call in their order, which call takes which edition, and the test and the reduction on its sheets. Assumes nothing.
 use Rattle.std.specs.Prelude.{◌≡◌, refl, List, [], ◌∷◌, ◌++◌, map, ℕ, take, replicate}
-use Rattle.std.proofs.Math.Option.{none, some}
+use Rattle.std.proofs.Math.Option.{some}
 use Rattle.model.specs.Lists.{values_from}
 use Rattle.model.specs.Consistency.{Tested, consistent, inconsistent}
 use Rattle.model.specs.Conflict.{Reduced, conflict, ReducedAlone, nothing, reduced, reduce_alone}

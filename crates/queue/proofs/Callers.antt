@@ -5,7 +5,6 @@ use mathlib.Core.List.{List, [], ◌∷◌, ◌++◌}
 use Prim.Native.Nat.{ℕ, ◌≤◌}
 use native.Mathlib.Omega.{arith}
 use lib.ListN.{length, length-map}
-use Rattle.model.specs.Lists.{All}
 use Rattle.model.specs.Sheet.{Plant, edition_of, decision_sizes}
 use Rattle.model.specs.Assignment.{Assignment}
 use Rattle.model.specs.Order.{Order, figure_of, order_of}

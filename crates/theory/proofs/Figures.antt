@@ -2,7 +2,7 @@
 use mathlib.Core.Path.{◌≡◌, refl, sym, ap, ap₂, ◌∙◌}
 use mathlib.Core.Bool.{Bool, true, false}
 use mathlib.Core.List.{List, [], ◌∷◌, ◌++◌, map}
-use Prim.Native.Nat.{ℕ, zero, suc, ◌+◌, ◌-◌, ◌*◌, ◌^◌, ◌≤◌, ◌<◌}
+use Prim.Native.Nat.{ℕ, zero, suc, ◌-◌, ◌*◌, ◌^◌, ◌≤◌, ◌<◌}
 use native.Mathlib.Omega.{arith}
 use native.Mathlib.Nat.{mul_left_comm, mul-pos, mul-lt-mul_of_pos_right, mul-le-mul, mul-le-mul_left, mul_comm, pow-suc, one-le-pow, suc-mul}
 use lib.ListN.{length, get_or, set, drop, replicate, length-map, get_or-append}
@@ -13,7 +13,7 @@ use Rattle.model.specs.Order.{join, unit, figure_of, cost, chance}
 use Rattle.theory.specs.Digits.{Below}
 use Rattle.theory.specs.Words.{sixteens, HasRows}
 use Rattle.theory.specs.Value.{Better}
-use Rattle.theory.proofs.Lists.{all-at, all_map}
+use Rattle.theory.proofs.Lists.{all-at}
 use Rattle.theory.proofs.Digits.{digits_number}
 use Rattle.theory.proofs.Agreement.{fits_length}
 

@@ -7,7 +7,6 @@ use Prim.Native.Nat.{ℕ, zero, suc, ◌+◌, ◌-◌, ◌*◌, ◌^◌, ◌≤�
 use native.Mathlib.Omega.{arith}
 use native.Mathlib.Nat.{zero-mul}
 use native.Mathlib.Numerals.{add-one}
-use lib.Dec.{ltb}
 use lib.ListN.{length, get_or, set, take, length-map, length-set, get_or-map, get_or-eq_default}
 use lib.Seq.{get_or-take, get_or-set_same, get_or-set_other, length-take-le, take-length}
 use borrow.Author.Tests.{ltb-true, ltb-false}

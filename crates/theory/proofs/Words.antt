@@ -4,22 +4,21 @@ use mathlib.Core.Logic.{◌↔◌}
 use mathlib.Core.Bool.{true, false≢true}
 use mathlib.Core.Option.{Option, none, some}
 use mathlib.Core.List.{List, [], ◌∷◌, ◌++◌, map}
-use Prim.Native.Nat.{ℕ, zero, suc, ◌+◌, ◌-◌, ◌*◌, ◌%◌, ◌^◌, ◌≤◌, ◌<◌}
+use Prim.Native.Nat.{ℕ, zero, suc, ◌+◌, ◌-◌, ◌%◌, ◌^◌, ◌≤◌, ◌<◌}
 use native.Mathlib.Omega.{arith}
-use native.Mathlib.Nat.{mod-eq_of_lt, mul-mod_left, mul_assoc}
+use native.Mathlib.Nat.{mod-eq_of_lt}
 use native.Mathlib.Numerals.{one-add}
 use lib.Count.{ones, ones_cat}
 use lib.Dec.{eqb, ltb, eqb-suc-suc}
 use lib.ListN.{length, get_or, take, drop, replicate, length-replicate, length-map, length-take}
-use lib.Pow.{pow-add}
 use lib.Seq.{get_or-take, drop_at}
 use borrow.Author.Tests.{ne_eqb, eqb-true, ltb-true, lt-ltb}
 use Rattle.model.specs.Lists.{All}
 use Rattle.model.specs.Digits.{number, digits}
 use Rattle.model.specs.Assignment.{Assignment, Under, Valid, bit, nibble, mask_of, values_of, optional, optionals, assignment_of, all_zero, nibbles_fit, mask_fits, values_fit, well_formed, is_full}
-use Rattle.theory.specs.Digits.{Below, horner}
+use Rattle.theory.specs.Digits.{Below}
 use Rattle.theory.specs.Words.{Words}
-use Rattle.theory.proofs.Digits.{number-low, digits_length, digits-below, number-below, digits_number, number_take, zero-from, number-zeros, horner-number}
+use Rattle.theory.proofs.Digits.{number-low, digits_length, digits-below, number-below, digits_number, number_take, zero-from, number-zeros}
 use Rattle.theory.proofs.Agreement.{valid_length}
 use Rattle.theory.proofs.Lists.{and_both}
 

@@ -15,7 +15,6 @@ use Rattle.model.specs.Lists.{All}
 use Rattle.model.specs.Digits.{number}
 use Rattle.model.specs.Assignment.{Assignment, Agree, Under, bit, nibble, all_zero, code}
 use Rattle.model.specs.Conflict.{contains, manifests, differs, resolves}
-use Rattle.model.specs.Order.{best}
 use Rattle.theory.specs.Digits.{Below}
 use Rattle.theory.specs.Words.{Wide, fifteen, wide_of}
 use Rattle.theory.proofs.Agreement.{agree_length}

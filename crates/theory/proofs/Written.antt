@@ -23,7 +23,7 @@ use Rattle.theory.specs.Plant.{Sized, Present, Accepted}
 use Rattle.theory.specs.Written.{first_literal, full_plant, largest_plant}
 use Rattle.theory.proofs.Digits.{digits_length, digits-below, digits_number, number_digits, zeros-behind}
 use Rattle.theory.proofs.Fields.{below-drop}
-use Rattle.theory.proofs.Lists.{all_map, all_join, all-zip, all_image, all-at, in_turn_length}
+use Rattle.theory.proofs.Lists.{all_map, all_join, all_image, all-at, in_turn_length}
 
 -- ---- bytes and their bits
 

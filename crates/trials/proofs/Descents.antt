@@ -1,13 +1,12 @@
 -- Each descent of the two searches leaves one variable fewer to set. Assumes nothing.
-use mathlib.Core.Path.{◌≡◌, refl, sym, ap, ◌∙◌}
-use mathlib.Core.Option.{Option, none, some}
+use mathlib.Core.Path.{◌≡◌, ◌∙◌}
+use mathlib.Core.Option.{none}
 use mathlib.Core.List.{List, ◌∷◌, map}
 use Prim.Native.Nat.{ℕ, zero, suc, ◌+◌, ◌-◌, ◌≤◌, ◌<◌}
 use native.Mathlib.Omega.{arith}
 use native.Mathlib.Numerals.{add-one}
 use lib.ListN.{length, get_or, set, drop, drop_of_length-le}
 use lib.Seq.{drop-cons}
-use Rattle.model.specs.Assignment.{Assignment}
 use Rattle.theory.specs.Nodes.{unset}
 use Rattle.theory.proofs.Descent.{unset_set}
 use Rattle.clauses.specs.Bytes.{given}

@@ -4,7 +4,6 @@ use native.Mathlib.Omega.{arith}
 use borrow.Author.Tests.{le-leb, lt-leb}
 use lib.ListN.{length}
 use Rattle.model.specs.Sheet.{field}
-use borrow.Author.Rules.{rules}
 use Rattle.bits.proofs.field_at.Goals as goal
 
 pub returns-then-last-sheet : goal.returns-then-last-sheet

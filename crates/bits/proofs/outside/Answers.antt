@@ -3,7 +3,6 @@ use Prim.Native.Nat.{◌+◌, ◌^◌, ◌≤◌}
 use native.Mathlib.Omega.{arith}
 use lib.Pow.{pow_pos, pow_mono}
 use Rattle.bits.proofs.Laws.{one_shifted}
-use borrow.Author.Rules.{rules}
 use Rattle.bits.proofs.outside.Goals as goal
 
 pub overflow_sub-result : goal.overflow_sub-result

@@ -4,7 +4,6 @@ use lib.Pow.{shl_exact}
 use Rattle.theory.proofs.Digits.{digits_length}
 use Rattle.theory.proofs.Fields.{below_all}
 use Rattle.bits.proofs.Putting.{put-blended}
-use borrow.Author.Rules.{rules}
 use Rattle.bits.proofs.put.Goals as goal
 
 pub returns : goal.returns

@@ -5,7 +5,6 @@ use native.Mathlib.Omega.{arith}
 use lib.ListN.{get_or}
 use lib.Seq.{set_out}
 use Rattle.bits.specs.Blend.{blended}
-use borrow.Author.Rules.{rules}
 use Rattle.bits.proofs.set_byte.Goals as goal
 
 pub overflow_cast-sheet : goal.overflow_cast-sheet

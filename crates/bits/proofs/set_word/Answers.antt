@@ -3,7 +3,6 @@ use Prim.Native.Nat.{◌/◌}
 use native.Mathlib.Omega.{arith}
 use Rattle.theory.proofs.Fields.{below_all}
 use Rattle.bits.proofs.Putting.{blended-three}
-use borrow.Author.Rules.{rules}
 use Rattle.bits.proofs.set_word.Goals as goal
 
 pub returns : goal.returns

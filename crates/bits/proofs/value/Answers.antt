@@ -3,7 +3,6 @@ use native.Mathlib.Omega.{arith}
 use lib.Pow.{pow_pos}
 use Rattle.theory.proofs.Fields.{below_all}
 use Rattle.bits.proofs.Laws.{one_shifted, in_three}
-use borrow.Author.Rules.{rules}
 use Rattle.bits.proofs.value.Goals as goal
 
 pub overflow_sub-result : goal.overflow_sub-result

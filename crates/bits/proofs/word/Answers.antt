@@ -2,7 +2,6 @@
 use native.Mathlib.Omega.{arith}
 use Prim.Native.Nat.{◌/◌}
 use Rattle.bits.proofs.Laws.{three}
-use borrow.Author.Rules.{rules}
 use Rattle.bits.proofs.word.Goals as goal
 
 pub returns : goal.returns

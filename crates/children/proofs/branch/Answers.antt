@@ -1,7 +1,6 @@
 -- `children::branch` meets its contract: where all variables are assigned there are no children, and otherwise they are the variants of the lowest that is not. Assumes nothing.
 use mathlib.Core.Path.{◌∙◌}
 use native.Mathlib.Omega.{arith}
-use borrow.Author.Rules.{rules}
 use Rattle.children.proofs.Walk.{size_small, size_is, branch_none, branch_free, branch_puts}
 use Rattle.children.proofs.branch.Goals as goal
 

@@ -1,5 +1,4 @@
 -- `children::from_entry` meets its contract: an entry's words tell the mask, the code and the figure. Assumes nothing.
-use borrow.Author.Rules.{rules}
 use Rattle.children.proofs.Numbers.{entry-is}
 use Rattle.children.proofs.from_entry.Goals as goal
 

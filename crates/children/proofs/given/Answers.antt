@@ -1,5 +1,4 @@
 -- `children::given` meets its contract: by the law of a child's numbers. Assumes nothing.
-use borrow.Author.Rules.{rules}
 use Rattle.children.proofs.Numbers.{child-is}
 use Rattle.children.proofs.given.Goals as goal
 

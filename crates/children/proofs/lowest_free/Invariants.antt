@@ -1,13 +1,10 @@
 -- `children::lowest_free` meets its contract. The loop's invariant: the variables passed are assigned. Assumes nothing.
-use mathlib.Core.Path.{◌≡◌, sym, ◌∙◌}
+use mathlib.Core.Path.{◌≡◌}
 use Prim.Native.Nat.{ℕ, ◌-◌, ◌≤◌}
-use native.Mathlib.Omega.{arith}
-use borrow.Author.Tests.{not-true, not-false}
 use lib.ListN.{length}
 use Rattle.model.specs.Assignment.{Assignment}
 use Rattle.theory.specs.Words.{Words}
 use Rattle.theory.specs.Nodes.{Filled}
-use Rattle.children.proofs.Walk.{is_none, assigned-is, filled_next}
 use Rattle.children.proofs.lowest_free.Given as goal
 
 abbrev pub invariant-loop-v : goal.invariant-loop-v

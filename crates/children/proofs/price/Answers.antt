@@ -1,6 +1,5 @@
 -- `children::price` meets its contract: it reads the table. Assumes nothing.
 use mathlib.Core.Path.{refl}
-use borrow.Author.Rules.{rules}
 use Rattle.children.proofs.price.Goals as goal
 
 pub returns : goal.returns

@@ -1,7 +1,6 @@
 -- `children::put_one` meets its contract: one law for each way out. Assumes nothing.
 use mathlib.Core.Path.{sym, ◌∙◌}
 use native.Mathlib.Omega.{arith}
-use borrow.Author.Rules.{rules}
 use Rattle.model.specs.Sheet.{edition_of, decision_sizes}
 use Rattle.model.specs.Order.{order_of}
 use Rattle.children.proofs.Numbers.{node-entry}

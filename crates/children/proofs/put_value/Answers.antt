@@ -1,5 +1,4 @@
 -- `children::put_value` meets its contract: the value that is excepted makes no child, and any other makes one, which is put. Assumes nothing.
-use borrow.Author.Rules.{rules}
 use borrow.Author.Tests.{eq-eqb, ne_eqb}
 use Rattle.children.proofs.Putting.{put-nothing, instead}
 use Rattle.children.proofs.put_value.Goals as goal

@@ -1,13 +1,6 @@
 -- `children::put_values` meets its contract. The loop's invariant: the children of the values passed have been put. Assumes nothing.
 use mathlib.Core.Path.{◌≡◌, refl, ◌∙◌}
-use Prim.Native.Nat.{◌-◌, ◌≤◌}
 use native.Mathlib.Omega.{arith}
-use borrow.Author.Rules.{rules}
-use lib.ListN.{length, get_or}
-use Rattle.model.specs.Lists.{values_from}
-use Rattle.model.specs.Sheet.{decision_sizes}
-use Rattle.children.specs.Children.{Free, Step, Puts, variants}
-use Rattle.children.specs.declared.Put.{Put}
 use Rattle.children.proofs.Putting.{put-nothing, onward, next-put, next-full}
 use Rattle.children.proofs.put_values.Goals as goal
 

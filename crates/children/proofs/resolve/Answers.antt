@@ -1,16 +1,9 @@
 -- `children::resolve` meets its contract. The loop's invariant: the children of the members passed have been put, and what is left is the children of the node with those members at the conflict's values. Assumes nothing.
-use mathlib.Core.Path.{◌≡◌, refl, ap, ◌∙◌}
-use mathlib.Core.Logic.{⊎_elim}
-use Prim.Native.Nat.{◌-◌, ◌≤◌}
+use mathlib.Core.Path.{refl, ap, ◌∙◌}
 use native.Mathlib.Omega.{arith}
-use borrow.Author.Rules.{rules}
 use lib.ListN.{length}
-use Rattle.model.specs.Sheet.{decision_sizes}
-use Rattle.model.specs.Assignment.{Assignment, Valid}
-use Rattle.theory.specs.Words.{Words}
-use Rattle.children.specs.Children.{Tables, Step}
 use Rattle.children.proofs.Walk.{size_small, size_is}
-use Rattle.children.proofs.Members.{Midway, midway_start, midway_end, here, midway_skip, here-free, here-small, midway_next, midway_full}
+use Rattle.children.proofs.Members.{midway_start, midway_end, here, midway_skip, here-free, here-small, midway_next, midway_full}
 use Rattle.children.proofs.resolve.Goals as goal
 use Rattle.children.proofs.resolve.Goals.{then-y-lt-VALUES+in-Entries, else-y-lt-VALUES}
 

@@ -1,5 +1,4 @@
 -- `children::values` meets its contract: the best state's code under the widened mask is the values word. Assumes nothing.
-use borrow.Author.Rules.{rules}
 use Rattle.children.proofs.Numbers.{words_are}
 use Rattle.children.proofs.values.Goals as goal
 

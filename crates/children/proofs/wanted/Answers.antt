@@ -3,7 +3,6 @@ use mathlib.Core.Path.{sym, ◌∙◌}
 use mathlib.Core.Option.{none}
 use native.Mathlib.Omega.{arith}
 use lib.ListN.{get_or}
-use borrow.Author.Rules.{rules}
 use Rattle.children.proofs.Walk.{assigned-is, value-is, member-held, member-free}
 use Rattle.children.proofs.wanted.Goals as goal
 

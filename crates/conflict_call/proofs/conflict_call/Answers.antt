@@ -1,13 +1,11 @@
 -- `conflict_call` meets its contract: the reader refuses the sheet, or leaves its plant's tables. Assumes nothing.
-use mathlib.Core.Path.{◌≡◌, sym}
+use mathlib.Core.Path.{sym}
 use native.Mathlib.Omega.{arith}
-use borrow.Author.Rules.{rules}
 use lib.Seq.{length-take-le}
-use Rattle.model.specs.Sheet.{Plant, Read, edition_of, read_sheet, read_either}
 use Rattle.sheet.proofs.Held.{refused-by}
 use Rattle.conflict_call.proofs.Asking.{says-read, sheet-refuses, sheet-answers}
 use Rattle.conflict.proofs.Given.{tabled-limits}
-use Rattle.refusal.proofs.Reading.{Opened, opened}
+use Rattle.refusal.proofs.Reading.{opened}
 use Rattle.conflict_call.proofs.conflict_call.Goals as goal
 
 pub overflow_add-n : goal.overflow_add-n

@@ -1,6 +1,4 @@
 -- `conflict_of` meets its contract: each way out is one way that the test goes, and the reduction after it. Assumes nothing.
-use borrow.Author.Rules.{rules}
-use borrow.Author.Tests.{not-true, not-false}
 use Rattle.conflict_call.proofs.Asking.{answers-none, answers-spent, answers-whole, answers-conflict, answers-stopped}
 use Rattle.conflict_call.proofs.conflict_of.Goals as goal
 

@@ -1,7 +1,6 @@
 -- `conflict_tables` meets its contract: words that no ground refuses hold an assignment of the plant, and the prepared sets make the tables ready for its test. Assumes nothing.
 use mathlib.Core.Path.{sym, ◌∙◌}
 use native.Mathlib.Omega.{arith}
-use borrow.Author.Rules.{rules}
 use Rattle.theory.proofs.Digits.{zero-at}
 use Rattle.clauses.specs.Numbers.{sat_words, uses_words}
 use Rattle.clauses.proofs.Callers.{tables_more}

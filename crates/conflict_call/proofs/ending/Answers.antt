@@ -1,6 +1,5 @@
 -- `ending` meets its contract: by each answer. Assumes nothing.
 use mathlib.Core.Path.{sym, ap}
-use borrow.Author.Rules.{rules}
 use Rattle.conflict_call.specs.Calls.{ending_of}
 use Rattle.conflict_call.proofs.ending.Goals as goal
 

@@ -1,5 +1,4 @@
 -- `reduce_call` meets its contract: by what is answered, where a minimal conflict is asked for. Assumes nothing.
-use borrow.Author.Rules.{rules}
 use Rattle.conflict_call.proofs.Asking.{reduce-right}
 use Rattle.conflict_call.proofs.reduce_call.Goals as goal
 

@@ -1,7 +1,5 @@
 -- `unfit` meets its contract: the two grounds in their order. Assumes nothing.
 use mathlib.Core.Path.{sym, ap, ◌∙◌}
-use borrow.Author.Rules.{rules}
-use borrow.Author.Tests.{not-true, not-false}
 use lib.ListN.{take}
 use lib.Seq.{length-take-le}
 use Rattle.refusal.specs.Refusal.{ground_number}

@@ -1,7 +1,6 @@
 -- `test_pairs` meets its contract: the first question is decided by `any_false`, the rest by the search along the plan that `start` makes, in which nothing is noted. Assumes nothing.
 use mathlib.Core.Path.{sym, ◌∙◌}
 use native.Mathlib.Omega.{arith}
-use borrow.Author.Rules.{rules}
 use Rattle.plan.proofs.Notes.{knows-none}
 use Rattle.consistency.proofs.Whole.{tables-vals, lent_plan, at_once, settled-clear, plan_first, searchable_first, planned-searched}
 use Rattle.consistency.proofs.test_pairs.Goals as goal

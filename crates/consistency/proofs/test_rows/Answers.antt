@@ -2,7 +2,6 @@
 use mathlib.Core.Path.{sym, ◌∙◌}
 use mathlib.Core.Bool.{true≢false}
 use native.Mathlib.Omega.{arith}
-use borrow.Author.Rules.{rules}
 use Rattle.clauses.specs.Numbers.{most_clauses}
 use Rattle.trials.proofs.FirstSets.{none_in_pair}
 use Rattle.consistency.proofs.Whole.{tables-vals, lent-first, bytes-first, at_once, searched}

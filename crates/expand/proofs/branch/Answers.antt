@@ -1,5 +1,4 @@
 -- `branch` meets its contract by the law of step 5. Assumes nothing.
-use borrow.Author.Rules.{rules}
 use Rattle.expand.proofs.Expanding.{removed-step, branched_is}
 use Rattle.expand.proofs.branch.Goals as goal
 

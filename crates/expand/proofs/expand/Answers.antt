@@ -1,12 +1,5 @@
 -- `expand` meets its contract: what the store's scan found says which step it goes on with. Assumes nothing.
-use mathlib.Core.Path.{◌≡◌}
-use mathlib.Core.Option.{none}
-use mathlib.Core.List.{List}
-use Prim.Native.Nat.{ℕ}
-use borrow.Author.Rules.{rules}
-use Rattle.model.specs.Listing.{first_unresolved}
 use Rattle.children.proofs.Callers.{tables_of_lem}
-use Rattle.judge.specs.Standing.{Question, Removed}
 use Rattle.expand.proofs.Expanding.{removed-room, found-one, found_none, removed-full, judged-is, children_given, judge-given}
 use Rattle.expand.proofs.expand.Goals as goal
 

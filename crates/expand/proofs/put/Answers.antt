@@ -1,6 +1,5 @@
 -- `put` meets its contract: the progress with so many entries, or the ending. Assumes nothing.
 use mathlib.Core.Path.{refl}
-use borrow.Author.Rules.{rules}
 use Rattle.expand.proofs.put.Goals as goal
 
 pub returns-in-Full : goal.returns-in-Full

@@ -1,5 +1,4 @@
 -- `resolve` meets its contract by the law of step 4. Assumes nothing.
-use borrow.Author.Rules.{rules}
 use Rattle.expand.proofs.Expanding.{removed-step, removed-valid, resolved_is}
 use Rattle.expand.proofs.resolve.Goals as goal
 

@@ -1,5 +1,4 @@
 -- `figures::exchanged` meets its contract. Assumes nothing.
-use Rattle.std.proofs.Common.{rules}
 use Rattle.figures.proofs.exchanged.Goals as goal
 
 pub returns-then-weighed : goal.returns-then-weighed

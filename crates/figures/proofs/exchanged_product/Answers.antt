@@ -1,5 +1,5 @@
 -- `figures::exchanged_product` meets its contract. Assumes nothing.
-use Rattle.std.proofs.Common.{mod-lt, mod-eq_of_lt, mul_comm, arith, rules}
+use Rattle.std.proofs.Common.{mod-lt, mod-eq_of_lt, mul_comm, arith}
 use Rattle.figures.proofs.Products.{word_holds}
 use Rattle.figures.proofs.exchanged_product.Goals as goal
 

@@ -1,6 +1,5 @@
 -- `figures::figure` meets its contract. Assumes nothing.
-use Rattle.std.proofs.Common.{arith, rules}
-use borrow.Author.Tests.{not-true, not-false}
+use Rattle.std.proofs.Common.{arith}
 use Rattle.figures.proofs.figure.Goals as goal
 
 pub returns-then-not-weighed : goal.returns-then-not-weighed

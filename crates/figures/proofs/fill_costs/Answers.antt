@@ -1,6 +1,5 @@
 -- `figures::fill_costs` meets its contract. The loop's invariant: the list is filled for the first i codes. Assumes nothing.
-use Rattle.std.proofs.Common.{◌≡◌, ◌-◌, ◌≤◌, map, length, take, refl, ◌∙◌, arith, length-set}
-use Rattle.model.specs.Lists.{filled}
+use Rattle.std.proofs.Common.{◌≡◌, refl, ◌∙◌, arith, length-set}
 use Rattle.model.specs.Digits.{digits}
 use Rattle.model.specs.Order.{cost}
 use Rattle.theory.specs.Words.{sixteens}

@@ -1,10 +1,9 @@
 -- `figures::fill_costs` meets its contract. The loop's invariant: the list is filled for the first i codes. Assumes nothing.
-use Rattle.std.proofs.Common.{◌≡◌, ◌-◌, ◌≤◌, map, length, take, refl, ◌∙◌, arith, length-set}
+use Rattle.std.proofs.Common.{◌≡◌, ◌-◌, ◌≤◌, map, length, take}
 use Rattle.model.specs.Lists.{filled}
 use Rattle.model.specs.Digits.{digits}
 use Rattle.model.specs.Order.{cost}
 use Rattle.theory.specs.Words.{sixteens}
-use Rattle.figures.proofs.Products.{filled_next}
 use Rattle.figures.proofs.fill_costs.Given as goal
 
 abbrev pub invariant-loop-i : goal.invariant-loop-i

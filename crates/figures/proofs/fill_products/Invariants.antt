@@ -1,11 +1,10 @@
 -- `figures::fill_products` meets its contract. The loop's invariant: where all codes read weights, the list is filled for the first k of them. Assumes nothing.
-use Rattle.std.proofs.Common.{◌≡◌, ℕ, ◌-◌, ◌<◌, ◌≤◌, map, length, get_or, take, refl, ◌∙◌, arith, length-set}
+use Rattle.std.proofs.Common.{◌≡◌, ℕ, ◌-◌, ◌<◌, ◌≤◌, map, length, get_or, take}
 use Rattle.model.specs.Lists.{filled}
 use Rattle.model.specs.Digits.{digits}
 use Rattle.model.specs.Order.{chance}
 use Rattle.theory.specs.Words.{sixteens}
 use Rattle.figures.specs.Weights.{ReadsWeights}
-use Rattle.figures.proofs.Products.{filled_next}
 use Rattle.figures.proofs.fill_products.Given as goal
 
 abbrev pub invariant-loop-k : goal.invariant-loop-k

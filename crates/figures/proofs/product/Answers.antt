@@ -1,11 +1,6 @@
 -- `figures::product` meets its contract. The loop's invariant: the product so far is of v factors, and with that of the variables left it is the product of all. Assumes nothing.
-use Rattle.std.proofs.Common.{◌≡◌, ◌+◌, ◌-◌, ◌*◌, ◌^◌, ◌≤◌, true, one-mul, arith, rules}
+use Rattle.std.proofs.Common.{◌+◌, ◌*◌, one-mul, arith}
 use native.Mathlib.Nat.{sub-zero}
-use Rattle.model.specs.Digits.{digits}
-use Rattle.model.specs.Order.{chance}
-use Rattle.theory.specs.Words.{sixteens}
-use Rattle.words.proofs.Loops.{figure_from}
-use Rattle.figures.specs.Weights.{ReadsWeights}
 use Rattle.figures.proofs.Products.{factors_most, eight-most, product-next, product_whole}
 use Rattle.figures.proofs.product.Goals as goal
 

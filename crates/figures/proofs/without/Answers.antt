@@ -1,6 +1,5 @@
 -- `figures::without` meets its contract. Assumes nothing.
 use native.Mathlib.Nat.{mul-div_cancel_left}
-use Rattle.std.proofs.Common.{rules}
 use Rattle.figures.proofs.without.Goals as goal
 
 pub returns : goal.returns

@@ -1,15 +1,6 @@
 -- `judge` meets its contract: one law for each way out. Assumes nothing.
-use mathlib.Core.Path.{◌≡◌}
-use mathlib.Core.List.{List}
-use Prim.Native.Nat.{ℕ}
-use borrow.Author.Rules.{rules}
-use Rattle.model.specs.Consistency.{test}
-use Rattle.model.specs.Calls.{shown_by}
-use Rattle.theory.specs.Tables.{Tabled}
-use Rattle.trials.specs.Answers.{answer_of}
 use Rattle.trials.proofs.Endings.{was_consistent, was_inconsistent, was_spent}
 use Rattle.conflict.proofs.Given.{ready-again, as_ended}
-use Rattle.judge.specs.Standing.{Question, Removed, CanCount}
 use Rattle.judge.proofs.Judging.{listed-less, can_count, codes-place, values-place, judge-most, judge-spent, judge-learn, judge-listed}
 use Rattle.judge.proofs.judge.Goals as goal
 

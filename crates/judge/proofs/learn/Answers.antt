@@ -1,12 +1,5 @@
 -- `learn` meets its contract: one law for each way out. Assumes nothing.
-use mathlib.Core.List.{List}
-use Prim.Native.Nat.{ℕ}
 use native.Mathlib.Omega.{arith}
-use borrow.Author.Rules.{rules}
-use Rattle.model.specs.Conflict.{reduce}
-use Rattle.theory.specs.Tables.{Tabled}
-use Rattle.conflict.specs.Reduced.{Reduces}
-use Rattle.judge.specs.Standing.{Question, Removed}
 use Rattle.judge.proofs.Judging.{learn-unkept, learn-spent, learn-conflict}
 use Rattle.judge.proofs.learn.Goals as goal
 

@@ -1,6 +1,5 @@
 -- `list` meets its contract: a place and the bytes of a state are written, and two counts are one higher. Assumes nothing.
 use mathlib.Core.Path.{refl}
-use borrow.Author.Rules.{rules}
 use Rattle.judge.proofs.list.Goals as goal
 
 pub returns : goal.returns

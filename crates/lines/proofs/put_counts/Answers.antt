@@ -1,7 +1,6 @@
 -- `lines::put_counts` meets its contract: its six parts are put one after another. Assumes nothing.
 use Prim.Native.Nat.{◌≤◌}
 use native.Mathlib.Omega.{arith}
-use borrow.Author.Rules.{rules}
 use lib.ListN.{length}
 use Rattle.model.specs.Text.{bytes, decimal, counts_line}
 use Rattle.theory.proofs.Puts.{puts_then, puts-pair}

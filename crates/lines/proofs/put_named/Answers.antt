@@ -1,6 +1,5 @@
 -- `lines::put_named` meets its contract: the number is put after the word. Assumes nothing.
 use native.Mathlib.Omega.{arith}
-use borrow.Author.Rules.{rules}
 use Rattle.theory.proofs.Puts.{puts_then}
 use Rattle.lines.proofs.put_named.Goals as goal
 

@@ -1,6 +1,5 @@
 -- `lines::put_refusal` meets its contract: the word, the number and the line feed are put. Assumes nothing.
 use native.Mathlib.Omega.{arith}
-use borrow.Author.Rules.{rules}
 use Rattle.model.specs.Text.{refusal_line}
 use Rattle.theory.proofs.Puts.{puts_then}
 use Rattle.lines.proofs.Lines.{refusal_length}

@@ -1,6 +1,5 @@
 -- `lines::put_state` meets its contract: its five parts are put one after another. Assumes nothing.
 use native.Mathlib.Omega.{arith}
-use borrow.Author.Rules.{rules}
 use Rattle.model.specs.Text.{space, code_digits, decimal, state_line}
 use Rattle.theory.proofs.Decimal.{hexadecimal_length}
 use Rattle.theory.proofs.Puts.{puts_then, puts-pair}

@@ -1,9 +1,8 @@
 -- `lines::put_states` meets its contract. The loop's invariant: the lines before place i are put. Assumes nothing.
 use Prim.Native.Nat.{◌-◌, ◌≤◌}
-use mathlib.Core.Path.{◌≡◌, refl}
-use native.Mathlib.Omega.{arith}
+use mathlib.Core.Path.{◌≡◌}
 use lib.ListN.{length}
-use Rattle.lines.proofs.Lines.{LinesTo, lines_start, lines-room, lines_step, lines_end}
+use Rattle.lines.proofs.Lines.{LinesTo}
 use Rattle.lines.proofs.put_states.Given as goal
 
 abbrev pub invariant-loop-i : goal.invariant-loop-i

@@ -1,7 +1,6 @@
 -- `from_root` meets its contract. Assumes nothing.
 use mathlib.Core.List.{[]}
 use native.Mathlib.Omega.{arith}
-use borrow.Author.Rules.{rules}
 use Rattle.model.specs.Sheet.{edition_of, decision_sizes}
 use Rattle.model.specs.Order.{order_of}
 use Rattle.model.specs.Listing.{unassigned, enough_steps}

@@ -6,7 +6,6 @@ use Rattle.clauses.specs.Numbers.{sat_words, uses_words}
 use Rattle.clauses.proofs.Callers.{tables_more}
 use Rattle.conflict.proofs.Given.{tabled-limits, plan_long}
 use Rattle.listing.proofs.Answering.{lists_of, finished_room, finished_ran}
-use borrow.Author.Rules.{rules}
 use Rattle.listing.proofs.list_tables.Goals as goal
 
 pub prepare-requires : goal.prepare-requires

@@ -1,5 +1,4 @@
 -- `listing` meets its contract. Assumes nothing.
-use borrow.Author.Rules.{rules}
 use Rattle.conflict.proofs.Given.{tabled-ready}
 use Rattle.listing.proofs.Starting.{lists-again, checked-survivors, checked-ends, broken_ends}
 use Rattle.listing.proofs.listing.Goals as goal

@@ -1,5 +1,4 @@
 -- `root` meets its contract. Assumes nothing.
-use borrow.Author.Rules.{rules}
 use Rattle.listing.proofs.Starting.{root_is}
 use Rattle.listing.proofs.root.Goals as goal
 

@@ -1,7 +1,6 @@
 -- `list` meets its contract: the equation with the model's call, and what is promised of every call. Assumes nothing.
 use Rattle.listing.specs.Listing.{buffers}
 use Rattle.listing_call.proofs.Answering.{called-shown, called-promised}
-use borrow.Author.Rules.{rules}
 use Rattle.listing_call.proofs.list.Goals as goal
 
 pub returns : goal.returns

@@ -1,16 +1,13 @@
 -- `list_codes` meets its contract: the host's numbers are refused, or the sheet is, or its tables are listed. Assumes nothing.
-use mathlib.Core.Path.{◌≡◌, refl, sym, ◌∙◌}
+use mathlib.Core.Path.{refl, sym, ◌∙◌}
 use mathlib.Core.List.{List}
 use Prim.Native.Nat.{ℕ}
 use native.Mathlib.Omega.{arith}
-use borrow.Author.Rules.{rules}
-use lib.ListN.{length, replicate, length-replicate}
+use lib.ListN.{replicate, length-replicate}
 use lib.Seq.{length-take-le}
-use Rattle.model.specs.Calls.{first_given, host_grounds}
 use Rattle.theory.proofs.Tables.{tabled-count, tabled-rows}
 use Rattle.sheet.proofs.Held.{refused-by}
-use Rattle.refusal.specs.Refusal.{ground_number}
-use Rattle.refusal.proofs.Reading.{Opened, opened}
+use Rattle.refusal.proofs.Reading.{opened}
 use Rattle.listing.specs.Listing.{buffers}
 use Rattle.listing_call.proofs.Refusing.{fit, room_of}
 use Rattle.listing_call.proofs.Answering.{host_refused, author-refused}

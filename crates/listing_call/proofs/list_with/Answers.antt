@@ -1,6 +1,5 @@
 -- `list_with` meets its contract: the codes are listed, and their costs filled in. Assumes nothing.
 use mathlib.Core.Path.{refl}
-use borrow.Author.Rules.{rules}
 use Rattle.listing_call.proofs.Answering.{refused-called, codes-places, costs-places, few-decisions, prices_room, figures-called}
 use Rattle.listing_call.proofs.list_with.Goals as goal
 

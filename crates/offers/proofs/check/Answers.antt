@@ -1,20 +1,9 @@
 -- `check` meets its contract: one law for each way out. Assumes nothing.
-use mathlib.Core.Path.{◌≡◌, sym, ◌∙◌}
-use mathlib.Core.Bool.{true}
-use mathlib.Core.List.{List}
-use Prim.Native.Nat.{ℕ, ◌+◌, ◌*◌}
+use mathlib.Core.Path.{sym, ◌∙◌}
+use Prim.Native.Nat.{◌+◌, ◌*◌}
 use native.Mathlib.Omega.{arith}
-use borrow.Author.Rules.{rules}
-use borrow.Author.Tests.{not-true, not-false}
-use lib.ListN.{length, take}
-use Rattle.model.specs.Sheet.{Plant}
-use Rattle.model.specs.Assignment.{assignment_of, well_formed}
-use Rattle.model.specs.Consistency.{test}
-use Rattle.theory.specs.Tables.{Tabled}
 use Rattle.theory.proofs.Words.{assignment_length}
-use Rattle.trials.specs.Answers.{answer_of}
 use Rattle.trials.proofs.Endings.{was_consistent, was_inconsistent, was_spent}
-use Rattle.conflict.specs.Reduced.{Held}
 use Rattle.conflict.proofs.Given.{as_ended}
 use Rattle.offers.proofs.Offering.{offer_held, check_malformed, check_consistent, check_spent, check_inconsistent}
 use Rattle.offers.proofs.check.Goals as goal

@@ -1,18 +1,9 @@
 -- `check_all` meets its contract. The loop's invariant: the check of all offers is the check of those behind place i, with the survivors so far. Assumes nothing.
-use mathlib.Core.Path.{◌≡◌, refl, ◌∙◌}
-use mathlib.Core.List.{List}
-use Prim.Native.Nat.{ℕ, ◌-◌, ◌≤◌}
+use mathlib.Core.Path.{refl, ◌∙◌}
 use native.Mathlib.Omega.{arith}
-use borrow.Author.Rules.{rules}
-use lib.ListN.{length}
-use Rattle.plan.specs.Plans.{plan_words}
-use Rattle.model.specs.Sheet.{Plant}
-use Rattle.theory.specs.Tables.{Tabled}
 use Rattle.theory.proofs.Tables.{tabled-count, tabled-few}
-use Rattle.conflict.specs.Given.{ForPlant}
 use Rattle.conflict.proofs.Given.{ready-again}
-use Rattle.offers.specs.Offers.{CheckedOne}
-use Rattle.offers.proofs.Offering.{CheckedTo, checked-start, checked-next, checked_broken, checked-end}
+use Rattle.offers.proofs.Offering.{checked-start, checked-next, checked_broken, checked-end}
 use Rattle.offers.proofs.check_all.Goals as goal
 
 pub loop-i-init : goal.loop-i-init

@@ -1,18 +1,10 @@
 -- `check_all` meets its contract. The loop's invariant: the check of all offers is the check of those behind place i, with the survivors so far. Assumes nothing.
-use mathlib.Core.Path.{◌≡◌, refl, ◌∙◌}
-use mathlib.Core.List.{List}
-use Prim.Native.Nat.{ℕ, ◌-◌, ◌≤◌}
-use native.Mathlib.Omega.{arith}
-use borrow.Author.Rules.{rules}
+use mathlib.Core.Path.{◌≡◌}
+use Prim.Native.Nat.{◌-◌, ◌≤◌}
 use lib.ListN.{length}
 use Rattle.plan.specs.Plans.{plan_words}
-use Rattle.model.specs.Sheet.{Plant}
-use Rattle.theory.specs.Tables.{Tabled}
-use Rattle.theory.proofs.Tables.{tabled-count, tabled-few}
 use Rattle.conflict.specs.Given.{ForPlant}
-use Rattle.conflict.proofs.Given.{ready-again}
-use Rattle.offers.specs.Offers.{CheckedOne}
-use Rattle.offers.proofs.Offering.{CheckedTo, checked-start, checked-next, checked_broken, checked-end}
+use Rattle.offers.proofs.Offering.{CheckedTo}
 use Rattle.offers.proofs.check_all.Given as goal
 
 abbrev pub invariant-loop-i : goal.invariant-loop-i

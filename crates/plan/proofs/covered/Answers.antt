@@ -3,7 +3,6 @@ use mathlib.Core.Path.{◌≡◌}
 use Prim.Native.Nat.{ℕ}
 use native.Mathlib.Omega.{arith}
 use borrow.Author.Tests.{eqb-true, eq-eqb}
-use borrow.Author.Rules.{rules}
 use Rattle.plan.proofs.Pairs.{covered_all, covered_first, covered_second}
 use Rattle.plan.proofs.covered.Goals as goal
 

@@ -1,11 +1,8 @@
 -- `fill` meets its contract. The loop: the bytes before v are taken over, and those from v on are as they came. Assumes nothing.
 use mathlib.Core.Path.{◌≡◌, ap, ◌∙◌}
-use mathlib.Core.Logic.{⊎_elim}
-use Prim.Native.Nat.{◌-◌, ◌≤◌}
 use native.Mathlib.Omega.{arith}
 use lib.ListN.{length, length-set}
-use Rattle.clauses.specs.Numbers.{variables}
-use Rattle.plan.proofs.Filled.{Filling, filling_first, filling_past, filling_free, filling_end}
+use Rattle.plan.proofs.Filled.{filling_first, filling_past, filling_free, filling_end}
 use Rattle.plan.proofs.fill.Goals as goal
 use Rattle.plan.proofs.fill.Goals.{then-vals-v-eq-UNASSIGNED, else-vals-v-eq-UNASSIGNED}
 

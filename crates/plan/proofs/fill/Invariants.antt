@@ -1,11 +1,8 @@
 -- `fill` meets its contract. The loop: the bytes before v are taken over, and those from v on are as they came. Assumes nothing.
-use mathlib.Core.Path.{◌≡◌, ap, ◌∙◌}
-use mathlib.Core.Logic.{⊎_elim}
 use Prim.Native.Nat.{◌-◌, ◌≤◌}
-use native.Mathlib.Omega.{arith}
-use lib.ListN.{length, length-set}
+use lib.ListN.{length}
 use Rattle.clauses.specs.Numbers.{variables}
-use Rattle.plan.proofs.Filled.{Filling, filling_first, filling_past, filling_free, filling_end}
+use Rattle.plan.proofs.Filled.{Filling}
 use Rattle.plan.proofs.fill.Given as goal
 
 abbrev pub invariant-loop-v : goal.invariant-loop-v

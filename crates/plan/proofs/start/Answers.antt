@@ -1,12 +1,10 @@
 -- `start` meets its contract. The loop, from the last variable down: what is made is the plan from v on. Assumes nothing.
 use mathlib.Core.Path.{◌≡◌}
-use Prim.Native.Nat.{◌+◌, ◌-◌, ◌≤◌}
+use Prim.Native.Nat.{◌+◌, ◌-◌}
 use native.Mathlib.Omega.{arith}
 use lib.ListN.{length, set, length-set}
 use lib.Seq.{get_or-set_same}
-use Rattle.clauses.specs.Sets.{in_pair}
-use Rattle.trials.specs.Searches.{Lent}
-use Rattle.plan.specs.Plans.{count_place, plan_words, Planned}
+use Rattle.plan.specs.Plans.{count_place, plan_words}
 use Rattle.plan.proofs.Plans.{lent_longer, planned-end}
 use Rattle.plan.proofs.start.Goals as goal
 

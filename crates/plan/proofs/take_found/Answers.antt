@@ -1,6 +1,5 @@
 -- `take_found` meets its contract, ending by ending. Assumes nothing.
 use mathlib.Core.Path.{sym, ◌∙◌}
-use borrow.Author.Rules.{rules}
 use Rattle.plan.proofs.Filled.{after-consistent, after-inconsistent, after-spent}
 use Rattle.plan.proofs.take_found.Goals as goal
 

@@ -1,7 +1,6 @@
 -- `taken_in` meets its contract: nothing is noted at v, and its row is written where it is unassigned. Assumes nothing.
 use mathlib.Core.Path.{refl}
 use native.Mathlib.Omega.{arith}
-use borrow.Author.Rules.{rules}
 use Rattle.plan.proofs.Plans.{planned-blanked, lent_longer, planned-free, planned-set}
 use Rattle.plan.proofs.taken_in.Goals as goal
 

@@ -1,10 +1,7 @@
 -- `preferred::best` meets its contract. The loop's invariant: the value so far is the best of the values up to x. Assumes nothing.
-use Prim.Native.Nat.{◌+◌, ◌-◌, ◌≤◌, ◌<◌}
+use Prim.Native.Nat.{◌+◌}
 use mathlib.Core.Path.{◌≡◌, sym, ◌∙◌}
 use native.Mathlib.Omega.{arith}
-use lib.ListN.{take}
-use borrow.Author.Rules.{rules}
-use Rattle.theory.specs.Value.{Better, BestValue}
 use Rattle.theory.proofs.Value.{better-compares, better-true, better-false, first-best, better-next, no_better-next}
 use Rattle.preferred.proofs.best.Goals as goal
 

@@ -1,14 +1,8 @@
 -- `preferred::preferred` meets its contract. The loop's invariant: the word so far hands in the best values of the first v variables. Assumes nothing.
 use Prim.Native.Nat.{◌-◌, ◌≤◌}
-use mathlib.Core.Path.{ap}
-use native.Mathlib.Omega.{arith}
 use lib.ListN.{take}
-use borrow.Author.Rules.{rules}
-use Rattle.model.specs.Sheet.{Plant}
 use Rattle.theory.specs.Tables.{rows}
 use Rattle.theory.specs.Value.{Better, BestValues}
-use Rattle.theory.proofs.Value.{no_values}
-use Rattle.preferred.proofs.Laws.{size-at, all-handed, one_more}
 use Rattle.preferred.proofs.preferred.Given as goal
 
 abbrev pub invariant-loop-v : goal.invariant-loop-v

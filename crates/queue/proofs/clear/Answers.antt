@@ -1,9 +1,9 @@
 -- `queue::clear` meets its contract. The invariant: the words before place i are zeros. The measure is how many are left. Assumes nothing.
 use mathlib.Core.Path.{◌≡◌, refl, sym, ap, ◌∙◌}
-use Prim.Native.Nat.{ℕ, ◌-◌, ◌≤◌}
+use Prim.Native.Nat.{ℕ}
 use native.Mathlib.Omega.{arith}
 use native.Mathlib.Numerals.{add-one}
-use lib.ListN.{length, take, replicate, length-set, replicate-append-replicate}
+use lib.ListN.{length, replicate, length-set, replicate-append-replicate}
 use lib.Seq.{take_all, take-suc-set}
 use Rattle.queue.proofs.clear.Goals as goal
 

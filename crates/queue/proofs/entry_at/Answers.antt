@@ -1,6 +1,5 @@
 -- `queue::entry_at` meets its contract: its two reads are the read of an entry. Assumes nothing.
 use Rattle.queue.proofs.PairLaws.{read-pair}
-use borrow.Author.Rules.{rules}
 use Rattle.queue.proofs.entry_at.Goals as goal
 
 pub returns : goal.returns

@@ -2,7 +2,6 @@
 use mathlib.Core.Path.{sym, ◌∙◌}
 use Prim.Native.Nat.{◌/◌, ◌^◌}
 use native.Mathlib.Omega.{arith}
-use borrow.Author.Rules.{rules}
 use Rattle.queue.specs.Order.{entry_of}
 use Rattle.queue.proofs.EntryLaws.{shifted-room, cost-words, product-words, state-fits}
 use Rattle.queue.proofs.entry_of.Goals as goal

@@ -1,6 +1,5 @@
 -- `queue::figure_in` meets its contract: its text is the definition's. Assumes nothing.
 use mathlib.Core.Path.{refl}
-use borrow.Author.Rules.{rules}
 use Rattle.queue.proofs.figure_in.Goals as goal
 
 pub returns-then-weighed : goal.returns-then-weighed

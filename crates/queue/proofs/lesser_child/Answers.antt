@@ -2,7 +2,6 @@
 use native.Mathlib.Omega.{arith}
 use Rattle.queue.specs.Entries.{pairs}
 use Rattle.queue.proofs.HeapLaws.{only_child, lesser_by, byte_small}
-use borrow.Author.Rules.{rules}
 use Rattle.queue.proofs.lesser_child.Goals as goal
 
 pub overflow_add-result : goal.overflow_add-result

@@ -1,7 +1,4 @@
 -- `queue::node_of` meets its contract: a node's entry has its mask and, masked, its values. Assumes nothing.
-use mathlib.Core.Path.{◌≡◌, ap}
-use borrow.Author.Rules.{rules}
-use Rattle.queue.specs.Order.{Item, entry_of}
 use Rattle.queue.proofs.EntryLaws.{node-words}
 use Rattle.queue.proofs.node_of.Goals as goal
 

@@ -8,7 +8,6 @@ use Rattle.queue.proofs.PairLaws.{room}
 use Rattle.queue.proofs.SumLaws.{first_out, only_out}
 use Rattle.queue.proofs.HeapLaws.{heap-part, all_first}
 use Rattle.queue.proofs.HoldsLaws.{holds_pop}
-use borrow.Author.Rules.{rules}
 use Rattle.queue.proofs.pop.Goals as goal
 
 pub returns-then-n-gt1 : goal.returns-then-n-gt1

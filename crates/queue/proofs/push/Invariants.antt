@@ -1,18 +1,10 @@
 -- `queue::push` meets its contract. The invariant: with (a, b) at the open place i, the queue is in order but for i, and is a permutation of the queue at the start with (a, b) in front. The measure is i. Assumes nothing.
-use mathlib.Core.Logic.{⊎_elim}
-use mathlib.Core.Path.{◌≡◌, refl, sym, ◌∙◌}
-use Prim.Native.Nat.{◌+◌, ◌-◌, ◌/◌, ◌≤◌}
-use native.Mathlib.Omega.{arith}
+use mathlib.Core.Path.{◌≡◌}
+use Prim.Native.Nat.{◌≤◌}
 use lib.ListN.{length}
-use borrow.Author.Tests.{not-true, not-false}
-use Rattle.queue.specs.Order.{Item}
-use Rattle.queue.specs.Entries.{pairs, entries}
+use Rattle.queue.specs.Entries.{pairs}
 use Rattle.queue.specs.Queue.{Ready}
-use Rattle.queue.proofs.OrderLaws.{due-before}
-use Rattle.queue.proofs.PairLaws.{room}
-use Rattle.queue.proofs.HeapLaws.{due-by}
-use Rattle.queue.proofs.SiftLaws.{Rising, rise_start, rise_step, rise_top, rise_stop}
-use Rattle.queue.proofs.HoldsLaws.{holds-push}
+use Rattle.queue.proofs.SiftLaws.{Rising}
 use Rattle.queue.proofs.push.Given as goal
 
 abbrev pub invariant-loop-i : goal.invariant-loop-i

@@ -1,6 +1,5 @@
 -- `queue::put` meets its contract: its two writes are the write of an entry. Assumes nothing.
 use Rattle.queue.proofs.PairLaws.{write-pair}
-use borrow.Author.Rules.{rules}
 use Rattle.queue.proofs.put.Goals as goal
 
 pub returns : goal.returns

@@ -1,12 +1,9 @@
 -- `queue::rebuild` meets its contract. The invariant: from place i on the queue is in order, and it is a permutation of the queue at the start. The measure is i. Assumes nothing.
-use mathlib.Core.Path.{◌≡◌, refl, ◌∙◌}
-use Prim.Native.Nat.{◌+◌, ◌-◌, ◌*◌, ◌/◌, ◌≤◌}
-use native.Mathlib.Omega.{arith}
+use mathlib.Core.Path.{◌≡◌}
+use Prim.Native.Nat.{◌*◌, ◌≤◌}
 use lib.ListN.{length, take}
-use lib.Seq.{set-get_or}
 use Rattle.queue.specs.Entries.{pairs, Same}
 use Rattle.queue.specs.Inside.{HeapFrom}
-use Rattle.queue.proofs.HeapLaws.{leaves}
 use Rattle.queue.proofs.rebuild.Given as goal
 
 abbrev pub invariant-loop-i : goal.invariant-loop-i

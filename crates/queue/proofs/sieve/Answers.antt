@@ -1,17 +1,14 @@
 -- `queue::sieve` meets its contract. The invariant: what stands in front is what any test that says what `stays` answers keeps of the entries read, and the others stand as they were. The measure is how many are left to read. Assumes nothing.
 use mathlib.Core.Path.{◌≡◌, refl, sym, ap, ◌∙◌}
-use mathlib.Core.Logic.{⊎_elim}
-use mathlib.Core.Bool.{Bool}
-use Prim.Native.Nat.{◌-◌, ◌≤◌, ◌<◌}
+use Prim.Native.Nat.{◌<◌}
 use native.Mathlib.Omega.{arith}
 use lib.ListN.{length, take}
 use Rattle.model.specs.Lists.{keep}
-use Rattle.queue.specs.Order.{Item}
 use Rattle.queue.specs.Entries.{pairs, entries}
 use Rattle.queue.specs.Inside.{nth}
 use Rattle.queue.specs.Queue.{Ready}
 use Rattle.queue.proofs.PairLaws.{room}
-use Rattle.queue.proofs.SieveLaws.{Answers, Sieving, sieve-start, sieve-keep, sieve-drop}
+use Rattle.queue.proofs.SieveLaws.{sieve-start, sieve-keep, sieve-drop}
 use Rattle.queue.proofs.HoldsLaws.{spared, stays_spared, holds-sieve}
 use Rattle.queue.proofs.sieve.Goals as goal
 use Rattle.queue.proofs.sieve.Goals.{then-stays, else-stays}

@@ -1,17 +1,11 @@
 -- `queue::sift_down` meets its contract. The invariant: with (a, b) at the open place i, the queue is in order but for i, and is a permutation of the queue at the start with (a, b) at `from`. The measure is how far i is from the end. Assumes nothing.
-use mathlib.Core.Logic.{⊎_elim}
-use mathlib.Core.Path.{◌≡◌, refl, sym, ◌∙◌}
-use Prim.Native.Nat.{◌+◌, ◌-◌, ◌<◌}
-use native.Mathlib.Omega.{arith}
-use lib.ListN.{length}
-use borrow.Author.Tests.{not-true, not-false}
+use mathlib.Core.Path.{refl, sym, ◌∙◌}
 use Rattle.queue.specs.Order.{Item}
 use Rattle.queue.specs.Entries.{pairs}
-use Rattle.queue.specs.Inside.{HeapFrom}
 use Rattle.queue.proofs.OrderLaws.{due-before}
 use Rattle.queue.proofs.PairLaws.{room}
 use Rattle.queue.proofs.HeapLaws.{due-by}
-use Rattle.queue.proofs.SiftLaws.{Sinking, sink_start, sink_step, sink_bottom, sink_stop}
+use Rattle.queue.proofs.SiftLaws.{sink_start, sink_step, sink_bottom, sink_stop}
 use Rattle.queue.proofs.sift_down.Goals as goal
 use Rattle.queue.proofs.sift_down.Goals.{else-loop-i-test, then-loop-i-test+then-not-comes_before}
 

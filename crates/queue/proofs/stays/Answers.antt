@@ -1,7 +1,6 @@
 -- `queue::stays` meets its contract: the node's words are compared with the conflict's. Assumes nothing.
 use mathlib.Core.Path.{sym, ap, ◌∙◌}
 use mathlib.Core.Bool.{not}
-use borrow.Author.Rules.{rules}
 use Rattle.theory.proofs.Agreement.{valid_length}
 use Rattle.queue.proofs.stays.Goals as goal
 

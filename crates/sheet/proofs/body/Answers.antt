@@ -1,9 +1,6 @@
 -- `sheet::body` meets its contract: the parts, one after another, are what follows the counts. Assumes nothing.
-use borrow.Author.Rules.{rules}
 use native.Mathlib.Omega.{arith}
 use mathlib.Core.Path.{sym}
-use mathlib.Core.List.{List}
-use Prim.Native.Nat.{ℕ}
 use lib.Seq.{length-take-le}
 use Rattle.model.specs.Sheet.{edition_of, read_body}
 use Rattle.theory.specs.Longest.{head_bits}

@@ -1,5 +1,4 @@
 -- `sheet::ending` meets its contract: the filler is zero exactly where its bits are zero as a number. Assumes nothing.
-use borrow.Author.Rules.{rules}
 use mathlib.Core.Path.{sym}
 use native.Mathlib.Omega.{arith}
 use Rattle.sheet.proofs.Ways.{end-filled, end_early, end-there}

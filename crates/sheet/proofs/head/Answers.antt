@@ -1,5 +1,4 @@
 -- `sheet::head` meets its contract: each return is the way through the reading that its fields and tests lead. Assumes nothing.
-use borrow.Author.Rules.{rules}
 use mathlib.Core.Path.{sym, ◌∙◌}
 use native.Mathlib.Omega.{arith}
 use Rattle.model.specs.Sheet.{edition_of}

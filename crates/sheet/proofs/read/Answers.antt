@@ -1,5 +1,4 @@
 -- `sheet::read` meets its contract: the counts, then what follows them. Assumes nothing.
-use borrow.Author.Rules.{rules}
 use native.Mathlib.Omega.{arith}
 use mathlib.Core.Path.{◌∙◌}
 use Rattle.sheet.proofs.Laws.{head-counts, head-refused, head-allowed}

@@ -1,5 +1,4 @@
 -- `sheet::weighed` meets its contract: where there is no byte, the model's is zero. Assumes nothing.
-use borrow.Author.Rules.{rules}
 use native.Mathlib.Omega.{arith}
 use lib.ListN.{get_or-eq_default}
 use Rattle.sheet.proofs.weighed.Goals as goal

@@ -1,15 +1,13 @@
 -- `sheet_clauses::clause` meets its contract: the literals in the table so far and the rest of the readings are the whole clause. Assumes nothing.
-use borrow.Author.Rules.{rules}
-use Prim.Native.Nat.{◌+◌, ◌*◌, ◌-◌, ◌≤◌}
+use Prim.Native.Nat.{◌*◌}
 use mathlib.Core.Path.{◌≡◌, refl, sym, ap, ◌∙◌}
 use native.Mathlib.Omega.{arith}
-use lib.ListN.{length, take, length-set}
-use Rattle.model.specs.Sheet.{read_literal, read_clause, got}
+use lib.ListN.{take, length-set}
+use Rattle.model.specs.Sheet.{got}
 use Rattle.theory.proofs.Sheet.{field-got}
 use Rattle.model.specs.Tables.{literals}
 use Rattle.sheet_clauses.proofs.Tables.{literals-write}
-use Rattle.theory.specs.Longest.{literal_bits}
-use Rattle.readings.proofs.Laws.{Reading, turn, stop, done, was_value, was_past}
+use Rattle.readings.proofs.Laws.{turn, stop, done, was_value, was_past}
 use Rattle.sheet_clauses.proofs.Laws.{was_literal, no_literal, clause-got, clause-past}
 use Rattle.sheet_clauses.proofs.clause.Goals as goal
 

@@ -1,16 +1,13 @@
 -- `sheet_clauses::clauses` meets its contract: the clauses in the tables so far and the rest of the readings are all of them. Assumes nothing.
-use borrow.Author.Rules.{rules}
-use Prim.Native.Nat.{◌+◌, ◌*◌, ◌-◌, ◌≤◌}
+use Prim.Native.Nat.{◌+◌}
 use mathlib.Core.Path.{◌≡◌, refl, sym, ap, ◌∙◌}
 use native.Mathlib.Omega.{arith}
-use lib.ListN.{length, take, set, length-set, length-take, length-drop}
-use Rattle.model.specs.Sheet.{many, read_clause, got}
+use lib.ListN.{take, set, length-set, length-take, length-drop}
+use Rattle.model.specs.Sheet.{got}
 use Rattle.model.specs.Tables.{clauses, total}
-use Rattle.theory.specs.Longest.{clause_bits}
-use Rattle.readings.specs.Lengths.{clause_bytes}
 use Rattle.readings.proofs.Tables.{take_write}
 use Rattle.sheet_clauses.proofs.Tables.{clauses-write, total_snoc}
-use Rattle.readings.proofs.Laws.{Reading, begin, turn, stop, done, was_item, no_item, within}
+use Rattle.readings.proofs.Laws.{begin, turn, stop, done, was_item, no_item, within}
 use Rattle.sheet_clauses.proofs.clauses.Goals as goal
 
 pub loop-i-init : goal.loop-i-init

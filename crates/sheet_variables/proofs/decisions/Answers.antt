@@ -1,16 +1,13 @@
 -- `sheet_variables::decisions` meets its contract: the rows in the table so far and the rest of the readings are all of them. Assumes nothing.
-use borrow.Author.Rules.{rules}
-use Prim.Native.Nat.{◌+◌, ◌*◌, ◌-◌, ◌≤◌}
+use Prim.Native.Nat.{◌*◌}
 use mathlib.Core.Path.{◌≡◌, refl, sym, ap, ◌∙◌}
-use mathlib.Core.List.{map}
 use native.Mathlib.Omega.{arith}
-use lib.ListN.{length, take, length-set, length-take, length-drop}
-use Rattle.model.specs.Sheet.{edition_of, many, read_decision, got}
+use lib.ListN.{take, length-set, length-take, length-drop}
+use Rattle.model.specs.Sheet.{got}
 use Rattle.theory.specs.Tables.{rows}
-use Rattle.readings.specs.Lengths.{decision_bits}
 use Rattle.readings.proofs.Tables.{part-long}
 use Rattle.sheet_variables.proofs.Tables.{rows_write, lengths-write}
-use Rattle.readings.proofs.Laws.{Reading, begin, turn, stop, done, was_item, no_item, within}
+use Rattle.readings.proofs.Laws.{begin, turn, stop, done, was_item, no_item, within}
 use Rattle.sheet_variables.proofs.decisions.Goals as goal
 
 pub loop-i-init : goal.loop-i-init

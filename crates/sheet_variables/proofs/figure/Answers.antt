@@ -1,5 +1,4 @@
 -- `sheet_variables::figure` meets its contract: a figure is a field of as many bits as the edition says, and a weight of zero is refused. Assumes nothing.
-use borrow.Author.Rules.{rules}
 use mathlib.Core.Path.{sym}
 use native.Mathlib.Omega.{arith}
 use lib.Pow.{pow_mono}

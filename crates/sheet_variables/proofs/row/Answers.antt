@@ -1,13 +1,12 @@
 -- `sheet_variables::row` meets its contract: the figures in the table so far and the rest of the readings are the whole row. Assumes nothing.
-use borrow.Author.Rules.{rules}
-use Prim.Native.Nat.{◌+◌, ◌*◌, ◌-◌, ◌≤◌, ◌<◌}
+use Prim.Native.Nat.{◌+◌, ◌<◌}
 use mathlib.Core.Path.{◌≡◌, refl, sym, ◌∙◌}
 use native.Mathlib.Omega.{arith}
-use lib.ListN.{length, take, length-set}
-use Rattle.model.specs.Sheet.{edition_of, read_figure, read_decision}
+use lib.ListN.{length, length-set}
+use Rattle.model.specs.Sheet.{edition_of}
 use Rattle.theory.proofs.Sheet.{field-got}
 use Rattle.readings.proofs.Tables.{take_write}
-use Rattle.readings.proofs.Laws.{Reading, turn, stop, done, was_value, was_past, was_item, no_item, within}
+use Rattle.readings.proofs.Laws.{turn, stop, done, was_value, was_past, was_item, no_item, within}
 use Rattle.sheet_variables.proofs.Laws.{decision_got, decision_past}
 use Rattle.sheet_variables.proofs.row.Goals as goal
 

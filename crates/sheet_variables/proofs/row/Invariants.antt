@@ -1,14 +1,9 @@
 -- `sheet_variables::row` meets its contract: the figures in the table so far and the rest of the readings are the whole row. Assumes nothing.
-use borrow.Author.Rules.{rules}
-use Prim.Native.Nat.{◌+◌, ◌*◌, ◌-◌, ◌≤◌, ◌<◌}
-use mathlib.Core.Path.{◌≡◌, refl, sym, ◌∙◌}
-use native.Mathlib.Omega.{arith}
-use lib.ListN.{length, take, length-set}
+use Prim.Native.Nat.{◌+◌, ◌*◌, ◌-◌, ◌≤◌}
+use mathlib.Core.Path.{◌≡◌}
+use lib.ListN.{length, take}
 use Rattle.model.specs.Sheet.{edition_of, read_figure, read_decision}
-use Rattle.theory.proofs.Sheet.{field-got}
-use Rattle.readings.proofs.Tables.{take_write}
-use Rattle.readings.proofs.Laws.{Reading, turn, stop, done, was_value, was_past, was_item, no_item, within}
-use Rattle.sheet_variables.proofs.Laws.{decision_got, decision_past}
+use Rattle.readings.proofs.Laws.{Reading}
 use Rattle.sheet_variables.proofs.row.Given as goal
 
 abbrev pub invariant-loop-i : goal.invariant-loop-i

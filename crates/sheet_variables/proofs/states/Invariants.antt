@@ -1,15 +1,10 @@
 -- `sheet_variables::states` meets its contract: the sizes in the table so far and the rest of the readings are all of them. Assumes nothing.
-use borrow.Author.Rules.{rules}
-use Prim.Native.Nat.{◌+◌, ◌*◌, ◌-◌, ◌≤◌, ◌<◌}
-use mathlib.Core.Path.{◌≡◌, refl, sym, ap, ◌∙◌}
-use native.Mathlib.Omega.{arith}
-use lib.ListN.{length, take, length-set}
-use Rattle.model.specs.Sheet.{many, read_state, got}
-use Rattle.theory.proofs.Sheet.{field-got}
+use Prim.Native.Nat.{◌+◌, ◌*◌, ◌-◌, ◌≤◌}
+use mathlib.Core.Path.{◌≡◌}
+use lib.ListN.{length, take}
+use Rattle.model.specs.Sheet.{many, read_state}
 use Rattle.theory.specs.Longest.{state_bits}
-use Rattle.readings.proofs.Tables.{take_write}
-use Rattle.readings.proofs.Laws.{Reading, begin, turn, stop, done, was_value, was_past}
-use Rattle.sheet_variables.proofs.Laws.{state-got, state-past}
+use Rattle.readings.proofs.Laws.{Reading}
 use Rattle.sheet_variables.proofs.states.Given as goal
 
 abbrev pub invariant-loop-i : goal.invariant-loop-i

@@ -1,5 +1,4 @@
 -- `sheet_variables::variables` meets its contract: the two calls fill two parts of the sizes, one after the other. Assumes nothing.
-use borrow.Author.Rules.{rules}
 use Prim.Native.Nat.{◌≤◌}
 use native.Mathlib.Omega.{arith}
 use lib.ListN.{length, length-take, length-drop}

@@ -1,19 +1,14 @@
 -- `run` meets its contract. The loop's invariant: lent slices keep their lengths, and the run from the start ends as the run from here. The measure is the weight of the queue, read off its words. Assumes nothing.
-use mathlib.Core.Path.{◌≡◌, refl, ◌∙◌}
-use mathlib.Core.List.{List}
-use Prim.Native.Nat.{ℕ, suc, ◌/◌, ◌<◌}
-use native.Mathlib.Omega.{arith}
-use borrow.Author.Rules.{rules}
+use mathlib.Core.Path.{◌≡◌}
+use Prim.Native.Nat.{ℕ, ◌/◌, ◌<◌}
 use lib.ListN.{length, take}
 use Rattle.plan.specs.Plans.{plan_words}
 use Rattle.model.specs.Sheet.{decision_sizes}
-use Rattle.model.specs.Listing.{Next, step, run}
+use Rattle.model.specs.Listing.{run}
 use Rattle.theory.specs.Nodes.{weights}
-use Rattle.judge.specs.declared.Progress.{Progress}
-use Rattle.judge.specs.declared.Next.{Next as After}
-use Rattle.judge.specs.Standing.{order_in, NextIs}
+use Rattle.judge.specs.Standing.{order_in}
 use Rattle.steps.specs.Run.{Steps}
-use Rattle.steps.proofs.Running.{queue_weight, Reached, reached-start, reached-steps, reached-end, reached-next}
+use Rattle.steps.proofs.Running.{queue_weight, Reached}
 use Rattle.steps.proofs.run.Given as goal
 
 abbrev pub invariant-loop-ending : goal.invariant-loop-ending

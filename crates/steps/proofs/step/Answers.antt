@@ -1,7 +1,5 @@
 -- `step` meets its contract: one law for each way out. Assumes nothing.
-use Prim.Native.Nat.{◌<◌}
 use native.Mathlib.Omega.{arith}
-use borrow.Author.Rules.{rules}
 use Rattle.steps.proofs.Removing.{step-enough, step-all, removes, step-removed}
 use Rattle.steps.proofs.step.Goals as goal
 

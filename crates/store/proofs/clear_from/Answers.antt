@@ -1,10 +1,7 @@
 -- `store::clear_from` meets its contract. The loop's invariant: what zeroing from here on leaves is what zeroing from behind the entries on leaves. Assumes nothing.
-use Prim.Native.Nat.{◌-◌, ◌*◌}
-use mathlib.Core.Path.{◌≡◌, refl, sym, ◌∙◌}
-use native.Mathlib.Omega.{arith}
-use borrow.Author.Rules.{rules}
-use lib.ListN.{length, length-set}
-use Rattle.store.proofs.Clearing.{zeroed, zero-step, zero-end, zeroed-behind}
+use mathlib.Core.Path.{refl, sym, ◌∙◌}
+use lib.ListN.{length-set}
+use Rattle.store.proofs.Clearing.{zero-step, zero-end, zeroed-behind}
 use Rattle.store.proofs.clear_from.Goals as goal
 
 pub loop-word-init : goal.loop-word-init

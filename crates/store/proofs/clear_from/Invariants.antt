@@ -1,10 +1,8 @@
 -- `store::clear_from` meets its contract. The loop's invariant: what zeroing from here on leaves is what zeroing from behind the entries on leaves. Assumes nothing.
 use Prim.Native.Nat.{◌-◌, ◌*◌}
-use mathlib.Core.Path.{◌≡◌, refl, sym, ◌∙◌}
-use native.Mathlib.Omega.{arith}
-use borrow.Author.Rules.{rules}
-use lib.ListN.{length, length-set}
-use Rattle.store.proofs.Clearing.{zeroed, zero-step, zero-end, zeroed-behind}
+use mathlib.Core.Path.{◌≡◌}
+use lib.ListN.{length}
+use Rattle.store.proofs.Clearing.{zeroed}
 use Rattle.store.proofs.clear_from.Given as goal
 
 abbrev pub invariant-loop-word : goal.invariant-loop-word

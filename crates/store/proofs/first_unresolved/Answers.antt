@@ -1,16 +1,9 @@
 -- `store::first_unresolved` meets its contract. The loop's invariant: the first unresolved of all conflicts is the first of those left. Assumes nothing.
-use Prim.Native.Nat.{ℕ, ◌-◌, ◌≤◌}
-use mathlib.Core.Path.{◌≡◌, refl, sym, ◌∙◌}
-use mathlib.Core.List.{List, []}
+use mathlib.Core.Path.{refl, sym, ◌∙◌}
+use mathlib.Core.List.{[]}
 use native.Mathlib.Omega.{arith}
-use borrow.Author.Rules.{rules}
-use borrow.Author.Tests.{not-true, not-false}
-use lib.ListN.{length, get_or, drop}
-use Rattle.model.specs.Assignment.{Assignment}
+use lib.ListN.{get_or}
 use Rattle.model.specs.Conflict.{resolves}
-use Rattle.model.specs.Listing.{first_unresolved}
-use Rattle.theory.specs.Words.{Wide}
-use Rattle.store.specs.Store.{Keeps}
 use Rattle.store.proofs.Entries.{keeps-wide, keeps-answer}
 use Rattle.store.proofs.Scan.{unresolved-here, unresolved-later, unresolved-end}
 use Rattle.store.proofs.first_unresolved.Goals as goal

@@ -1,18 +1,12 @@
 -- `store::first_unresolved` meets its contract. The loop's invariant: the first unresolved of all conflicts is the first of those left. Assumes nothing.
 use Prim.Native.Nat.{ℕ, ◌-◌, ◌≤◌}
-use mathlib.Core.Path.{◌≡◌, refl, sym, ◌∙◌}
-use mathlib.Core.List.{List, []}
-use native.Mathlib.Omega.{arith}
-use borrow.Author.Rules.{rules}
-use borrow.Author.Tests.{not-true, not-false}
-use lib.ListN.{length, get_or, drop}
+use mathlib.Core.Path.{◌≡◌}
+use mathlib.Core.List.{List}
+use lib.ListN.{length, drop}
 use Rattle.model.specs.Assignment.{Assignment}
-use Rattle.model.specs.Conflict.{resolves}
 use Rattle.model.specs.Listing.{first_unresolved}
 use Rattle.theory.specs.Words.{Wide}
 use Rattle.store.specs.Store.{Keeps}
-use Rattle.store.proofs.Entries.{keeps-wide, keeps-answer}
-use Rattle.store.proofs.Scan.{unresolved-here, unresolved-later, unresolved-end}
 use Rattle.store.proofs.first_unresolved.Given as goal
 
 abbrev pub invariant-loop-first : goal.invariant-loop-first

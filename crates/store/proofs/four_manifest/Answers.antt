@@ -3,7 +3,6 @@ use mathlib.Core.Path.{sym, ap₂, ◌∙◌}
 use mathlib.Core.Bool.{◌||◌}
 use mathlib.Core.List.{[]}
 use native.Mathlib.Omega.{arith}
-use borrow.Author.Rules.{rules}
 use Rattle.model.specs.Conflict.{manifests}
 use Rattle.store.proofs.Scan.{any_four}
 use Rattle.store.proofs.four_manifest.Goals as goal

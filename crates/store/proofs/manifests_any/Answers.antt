@@ -1,15 +1,8 @@
 -- `store::manifests_any` meets its contract. The loop's invariant: the node contains none of the conflicts before this place. Assumes nothing.
-use Prim.Native.Nat.{ℕ, ◌-◌, ◌≤◌}
-use mathlib.Core.Path.{◌≡◌, sym, ◌∙◌}
-use mathlib.Core.Bool.{false}
-use mathlib.Core.List.{List, []}
+use mathlib.Core.Path.{sym, ◌∙◌}
+use mathlib.Core.List.{[]}
 use native.Mathlib.Omega.{arith}
-use lib.ListN.{length, take}
-use Rattle.model.specs.Lists.{any_of}
-use Rattle.model.specs.Assignment.{Assignment}
 use Rattle.model.specs.Conflict.{manifests}
-use Rattle.theory.specs.Words.{Wide}
-use Rattle.store.specs.Store.{Keeps}
 use Rattle.store.proofs.Scan.{none_further, any_one, any_here, none_at_all}
 use Rattle.store.proofs.manifests_any.Goals as goal
 

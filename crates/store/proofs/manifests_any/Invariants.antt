@@ -1,16 +1,14 @@
 -- `store::manifests_any` meets its contract. The loop's invariant: the node contains none of the conflicts before this place. Assumes nothing.
 use Prim.Native.Nat.{ℕ, ◌-◌, ◌≤◌}
-use mathlib.Core.Path.{◌≡◌, sym, ◌∙◌}
+use mathlib.Core.Path.{◌≡◌}
 use mathlib.Core.Bool.{false}
-use mathlib.Core.List.{List, []}
-use native.Mathlib.Omega.{arith}
+use mathlib.Core.List.{List}
 use lib.ListN.{length, take}
 use Rattle.model.specs.Lists.{any_of}
 use Rattle.model.specs.Assignment.{Assignment}
 use Rattle.model.specs.Conflict.{manifests}
 use Rattle.theory.specs.Words.{Wide}
 use Rattle.store.specs.Store.{Keeps}
-use Rattle.store.proofs.Scan.{none_further, any_one, any_here, none_at_all}
 use Rattle.store.proofs.manifests_any.Given as goal
 
 abbrev pub invariant-loop-i : goal.invariant-loop-i

@@ -1,5 +1,4 @@
 -- `store::manifests_at` meets its contract: the entry's words are those of the conflict at its place. Assumes nothing.
-use borrow.Author.Rules.{rules}
 use Rattle.model.specs.Conflict.{manifests}
 use Rattle.store.proofs.Entries.{keeps-answer}
 use Rattle.store.proofs.manifests_at.Goals as goal

@@ -1,14 +1,11 @@
 -- `store::narrow_masks` meets its contract. The loop's invariant: the entries before this place have narrow masks, and all words from it on are as they were. Assumes nothing.
-use Prim.Native.Nat.{ℕ, ◌-◌, ◌*◌, ◌≤◌}
-use mathlib.Core.Path.{◌≡◌, refl, ap, ◌∙◌}
-use mathlib.Core.List.{List, []}
-use native.Mathlib.Omega.{arith}
-use borrow.Author.Rules.{rules}
-use lib.ListN.{length, get_or, set, length-set}
+use Prim.Native.Nat.{ℕ, ◌-◌, ◌≤◌}
+use mathlib.Core.Path.{◌≡◌}
+use mathlib.Core.List.{List}
+use lib.ListN.{length}
 use Rattle.model.specs.Assignment.{Assignment}
 use Rattle.store.specs.Store.{Keeps}
-use Rattle.store.proofs.Entries.{keeps-wide}
-use Rattle.store.proofs.Clearing.{narrowed_to, narrow_start, narrow-reads, narrow_step, narrow-end}
+use Rattle.store.proofs.Clearing.{narrowed_to}
 use Rattle.store.proofs.narrow_masks.Given as goal
 
 abbrev pub invariant-loop-entry : goal.invariant-loop-entry

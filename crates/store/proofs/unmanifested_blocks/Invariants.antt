@@ -1,16 +1,14 @@
 -- `store::unmanifested_blocks` meets its contract. The loop's invariant: the node contains none of the conflicts before this place. Assumes nothing.
 use Prim.Native.Nat.{ℕ, ◌-◌, ◌≤◌}
-use mathlib.Core.Path.{◌≡◌, refl, sym, ap₂, ◌∙◌}
-use mathlib.Core.Bool.{false, ◌||◌}
+use mathlib.Core.Path.{◌≡◌}
+use mathlib.Core.Bool.{false}
 use mathlib.Core.List.{List}
-use native.Mathlib.Omega.{arith}
 use lib.ListN.{length, take}
 use Rattle.model.specs.Lists.{any_of}
 use Rattle.model.specs.Assignment.{Assignment}
 use Rattle.model.specs.Conflict.{manifests}
 use Rattle.theory.specs.Words.{Wide}
 use Rattle.store.specs.Store.{Keeps}
-use Rattle.store.proofs.Scan.{none-eight}
 use Rattle.store.proofs.unmanifested_blocks.Given as goal
 
 abbrev pub invariant-loop-at : goal.invariant-loop-at

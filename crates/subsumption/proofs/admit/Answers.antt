@@ -2,7 +2,6 @@
 use mathlib.Core.Path.{refl, sym, ◌∙◌}
 use Prim.Native.Nat.{◌+◌, ◌*◌}
 use native.Mathlib.Omega.{arith}
-use borrow.Author.Rules.{rules}
 use Rattle.theory.proofs.Lists.{all_map}
 use Rattle.subsumption.proofs.Subsuming.{admitted-dropped, admitted-put}
 use Rattle.subsumption.proofs.Pushing.{same-behind, wide-words}

@@ -1,15 +1,8 @@
 -- `subsumption::first_related` meets its contract. The loop's invariant: where none before `from` is related to the conflict, none before this place is. Assumes nothing.
-use Prim.Native.Nat.{ℕ, ◌-◌, ◌≤◌}
-use mathlib.Core.Path.{◌≡◌, sym, ◌∙◌}
-use mathlib.Core.Bool.{false}
-use mathlib.Core.List.{List, []}
+use mathlib.Core.Path.{sym, ◌∙◌}
+use mathlib.Core.List.{[]}
 use native.Mathlib.Omega.{arith}
-use lib.ListN.{length, take}
-use Rattle.model.specs.Lists.{any_of}
-use Rattle.model.specs.Assignment.{Assignment}
-use Rattle.theory.specs.Words.{Wide}
 use Rattle.theory.specs.Store.{related}
-use Rattle.store.specs.Store.{Keeps}
 use Rattle.store.proofs.Scan.{none_further, any_one}
 use Rattle.subsumption.proofs.first_related.Goals as goal
 

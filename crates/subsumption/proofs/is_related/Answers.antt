@@ -1,7 +1,6 @@
 -- `subsumption::is_related` meets its contract: the entry's words are those of the conflict at its place, and the comparison answers for both directions. Assumes nothing.
 use mathlib.Core.Path.{sym, ◌∙◌}
 use mathlib.Core.List.{[]}
-use borrow.Author.Rules.{rules}
 use lib.ListN.{get_or}
 use Rattle.store.proofs.Entries.{keeps-wide}
 use Rattle.subsumption.proofs.Pushing.{keeps_length}

@@ -1,6 +1,5 @@
 -- `subsumption::learn` meets its contract: all that contain the conflict are removed, and it is appended. Assumes nothing.
 use native.Mathlib.Omega.{arith}
-use borrow.Author.Rules.{rules}
 use Rattle.subsumption.proofs.Pushing.{wide-words}
 use Rattle.subsumption.proofs.learn.Goals as goal
 

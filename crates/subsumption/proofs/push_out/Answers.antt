@@ -1,18 +1,13 @@
 -- `subsumption::push_out` meets its contract. The loop's invariant: what stands in front is kept, behind it comes what the test keeps of the entries from this place on, and those stand as they were. Assumes nothing.
-use Prim.Native.Nat.{ℕ, ◌-◌, ◌+◌, ◌*◌, ◌≤◌, ◌<◌}
+use Prim.Native.Nat.{◌+◌, ◌*◌, ◌<◌}
 use mathlib.Core.Path.{◌≡◌, refl, sym, ap, ◌∙◌}
 use mathlib.Core.Bool.{not}
-use mathlib.Core.List.{List, [], ◌++◌}
+use mathlib.Core.List.{[]}
 use native.Mathlib.Omega.{arith}
-use borrow.Author.Rules.{rules}
-use lib.ListN.{length, get_or, take, drop, length-set}
-use Rattle.model.specs.Lists.{keep}
-use Rattle.model.specs.Assignment.{Assignment}
+use lib.ListN.{get_or, length-set}
 use Rattle.model.specs.Conflict.{manifests}
-use Rattle.theory.specs.Words.{Wide}
-use Rattle.store.specs.Store.{Keeps}
 use Rattle.store.proofs.Entries.{keeps-wide}
-use Rattle.subsumption.proofs.Pushing.{Closing, keeps_length, same-behind, same_at, written_behind, closing_start, closing_step, closing_end, keep-here, keep-past, byte_small}
+use Rattle.subsumption.proofs.Pushing.{keeps_length, same-behind, same_at, written_behind, closing_start, closing_step, closing_end, keep-here, keep-past, byte_small}
 use Rattle.subsumption.proofs.push_out.Goals as goal
 
 pub loop-i-init : goal.loop-i-init

@@ -1,18 +1,15 @@
 -- `subsumption::push_out` meets its contract. The loop's invariant: what stands in front is kept, behind it comes what the test keeps of the entries from this place on, and those stand as they were. Assumes nothing.
-use Prim.Native.Nat.{ℕ, ◌-◌, ◌+◌, ◌*◌, ◌≤◌, ◌<◌}
-use mathlib.Core.Path.{◌≡◌, refl, sym, ap, ◌∙◌}
+use Prim.Native.Nat.{ℕ, ◌-◌, ◌*◌, ◌≤◌}
+use mathlib.Core.Path.{◌≡◌}
 use mathlib.Core.Bool.{not}
-use mathlib.Core.List.{List, [], ◌++◌}
-use native.Mathlib.Omega.{arith}
-use borrow.Author.Rules.{rules}
-use lib.ListN.{length, get_or, take, drop, length-set}
+use mathlib.Core.List.{List, ◌++◌}
+use lib.ListN.{length, take, drop}
 use Rattle.model.specs.Lists.{keep}
 use Rattle.model.specs.Assignment.{Assignment}
 use Rattle.model.specs.Conflict.{manifests}
 use Rattle.theory.specs.Words.{Wide}
 use Rattle.store.specs.Store.{Keeps}
-use Rattle.store.proofs.Entries.{keeps-wide}
-use Rattle.subsumption.proofs.Pushing.{Closing, keeps_length, same-behind, same_at, written_behind, closing_start, closing_step, closing_end, keep-here, keep-past, byte_small}
+use Rattle.subsumption.proofs.Pushing.{Closing}
 use Rattle.subsumption.proofs.push_out.Given as goal
 
 abbrev pub invariant-loop-i : goal.invariant-loop-i

@@ -1,16 +1,14 @@
 -- `subsumption::unrelated_blocks` meets its contract. The loop's invariant: none of the entries before this place is related to the conflict. Assumes nothing.
 use Prim.Native.Nat.{ℕ, ◌-◌, ◌≤◌}
-use mathlib.Core.Path.{◌≡◌, refl, sym, ap₂, ◌∙◌}
-use mathlib.Core.Bool.{false, ◌||◌}
+use mathlib.Core.Path.{◌≡◌}
+use mathlib.Core.Bool.{false}
 use mathlib.Core.List.{List}
-use native.Mathlib.Omega.{arith}
 use lib.ListN.{length, take}
 use Rattle.model.specs.Lists.{any_of}
 use Rattle.model.specs.Assignment.{Assignment}
 use Rattle.theory.specs.Words.{Wide}
 use Rattle.theory.specs.Store.{related}
 use Rattle.store.specs.Store.{Keeps}
-use Rattle.store.proofs.Scan.{none-eight}
 use Rattle.subsumption.proofs.unrelated_blocks.Given as goal
 
 abbrev pub invariant-loop-at : goal.invariant-loop-at

@@ -1,7 +1,5 @@
 -- `text::decimal_places` meets its contract. The loop's invariant: what is left stands above these places, and no fewer hold the number. Assumes nothing.
-use native.Mathlib.Omega.{arith}
-use native.Mathlib.Nat.{div-lt_self}
-use Rattle.text.proofs.Putting.{PlacesFrom, places-start, places-step, places-end}
+use Rattle.text.proofs.Putting.{PlacesFrom}
 use Rattle.text.proofs.decimal_places.Given as goal
 
 abbrev pub invariant-loop-rest : goal.invariant-loop-rest

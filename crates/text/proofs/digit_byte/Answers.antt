@@ -1,5 +1,4 @@
 -- `text::digit_byte` meets its contract: the byte is that of the branch taken. Assumes nothing.
-use borrow.Author.Rules.{rules}
 use Rattle.text.proofs.Putting.{digit_low, digit_high}
 use Rattle.text.proofs.digit_byte.Goals as goal
 

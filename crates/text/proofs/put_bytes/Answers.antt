@@ -1,9 +1,9 @@
 -- `text::put_bytes` meets its contract. The loop's invariant: the bytes from place i on are put. Assumes nothing.
-use Prim.Native.Nat.{◌-◌, ◌+◌, ◌≤◌}
-use mathlib.Core.Path.{◌≡◌, refl, ◌∙◌}
+use Prim.Native.Nat.{◌-◌, ◌+◌}
+use mathlib.Core.Path.{refl, ◌∙◌}
 use native.Mathlib.Omega.{arith}
-use lib.ListN.{length, get_or, length-set}
-use Rattle.text.proofs.Putting.{BytesFrom, bytes-start, bytes-step, bytes-end}
+use lib.ListN.{get_or, length-set}
+use Rattle.text.proofs.Putting.{bytes-start, bytes-step, bytes-end}
 use Rattle.text.proofs.put_bytes.Goals as goal
 
 pub loop-i-init : goal.loop-i-init

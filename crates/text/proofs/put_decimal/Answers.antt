@@ -1,6 +1,5 @@
 -- `text::put_decimal` meets its contract: the digits at the fewest places are those without leading zeros. Assumes nothing.
 use native.Mathlib.Omega.{arith}
-use borrow.Author.Rules.{rules}
 use Rattle.model.specs.Text.{most_decimals}
 use Rattle.theory.proofs.Decimal.{decimal-digits, decimal_length}
 use Rattle.text.proofs.put_decimal.Goals as goal

@@ -1,5 +1,5 @@
 -- `text::put_digits` meets its contract. The loop's invariant: the digits at the places from i on are put, and what is left holds those before them. Assumes nothing.
-use Prim.Native.Nat.{◌+◌, ◌-◌, ◌≤◌}
+use Prim.Native.Nat.{◌+◌, ◌-◌}
 use mathlib.Core.Path.{◌≡◌, refl, ◌∙◌}
 use mathlib.Core.List.{map}
 use native.Mathlib.Omega.{arith}
@@ -8,7 +8,7 @@ use lib.ListN.{length, length-set, length-map}
 use Rattle.model.specs.Digits.{digits}
 use Rattle.model.specs.Text.{digit_byte}
 use Rattle.theory.proofs.Digits.{digits_length}
-use Rattle.text.proofs.Putting.{DigitsFrom, digits-start, digits_step, digits-end}
+use Rattle.text.proofs.Putting.{digits-start, digits_step, digits-end}
 use Rattle.text.proofs.put_digits.Goals as goal
 
 pub loop-i-init : goal.loop-i-init

@@ -1,14 +1,8 @@
 -- `text::put_digits` meets its contract. The loop's invariant: the digits at the places from i on are put, and what is left holds those before them. Assumes nothing.
-use Prim.Native.Nat.{◌+◌, ◌-◌, ◌≤◌}
-use mathlib.Core.Path.{◌≡◌, refl, ◌∙◌}
-use mathlib.Core.List.{map}
-use native.Mathlib.Omega.{arith}
-use native.Mathlib.Nat.{mod-lt}
-use lib.ListN.{length, length-set, length-map}
-use Rattle.model.specs.Digits.{digits}
-use Rattle.model.specs.Text.{digit_byte}
-use Rattle.theory.proofs.Digits.{digits_length}
-use Rattle.text.proofs.Putting.{DigitsFrom, digits-start, digits_step, digits-end}
+use Prim.Native.Nat.{◌≤◌}
+use mathlib.Core.Path.{◌≡◌}
+use lib.ListN.{length}
+use Rattle.text.proofs.Putting.{DigitsFrom}
 use Rattle.text.proofs.put_digits.Given as goal
 
 abbrev pub invariant-loop-i : goal.invariant-loop-i

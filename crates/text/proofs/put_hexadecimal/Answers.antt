@@ -1,5 +1,4 @@
 -- `text::put_hexadecimal` meets its contract: its digits are put. Assumes nothing.
-use borrow.Author.Rules.{rules}
 use Rattle.model.specs.Text.{hexadecimal}
 use Rattle.text.proofs.put_hexadecimal.Goals as goal
 

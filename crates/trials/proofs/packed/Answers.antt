@@ -1,7 +1,6 @@
 -- `packed` meets its contract: each number is read back. Assumes nothing.
 use mathlib.Core.Path.{sym, ◌∙◌}
 use native.Mathlib.Omega.{arith}
-use borrow.Author.Rules.{rules}
 use Rattle.trials.proofs.Endings.{in_inconsistent, in_consistent, in_spent}
 use Rattle.trials.proofs.packed.Goals as goal
 

@@ -1,6 +1,5 @@
 -- `unpacked` meets its contract, case by case. Assumes nothing.
 use mathlib.Core.Path.{sym}
-use borrow.Author.Rules.{rules}
 use native.Mathlib.Omega.{arith}
 use Rattle.trials.specs.Answers.{answer_as, answer_in}
 use Rattle.trials.proofs.Endings.{as_rest}

@@ -1,6 +1,5 @@
 -- `with_trials_made` meets its contract, ending by ending. Assumes nothing.
 use mathlib.Core.Path.{sym}
-use borrow.Author.Rules.{rules}
 use Rattle.trials.proofs.Endings.{found-few, failed_few, stopped-few, told-consistent, told-inconsistent, told-spent}
 use Rattle.trials.proofs.with_trials_made.Goals as goal
 

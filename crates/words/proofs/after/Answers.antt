@@ -1,5 +1,4 @@
 -- `words::after` meets its contract: a shift past the first nibbles leaves those after them. Assumes nothing.
-use borrow.Author.Rules.{rules}
 use native.Mathlib.Omega.{arith}
 use native.Mathlib.Nat.{mod-one}
 use Rattle.theory.proofs.Digits.{zero-from}

@@ -1,5 +1,4 @@
 -- `words::bit_at` meets its contract: a shift and a conjunction are a division and a remainder. Assumes nothing.
-use borrow.Author.Rules.{rules}
 use Rattle.theory.proofs.WordsSet.{bit-read, bit_below}
 use Rattle.words.proofs.bit_at.Goals as goal
 

@@ -1,15 +1,10 @@
 -- `words::cost` meets its contract. The loop's invariant: the sum so far, with what the variables left cost, is the cost. Assumes nothing.
-use Prim.Native.Nat.{◌+◌, ◌-◌, ◌*◌, ◌≤◌}
-use mathlib.Core.Path.{◌≡◌}
 use mathlib.Core.Bool.{false}
 use native.Mathlib.Omega.{arith}
 use native.Mathlib.Nat.{zero-add, sub-zero}
-use borrow.Author.Rules.{rules}
 use Rattle.model.specs.Digits.{digits}
-use Rattle.model.specs.Order.{cost}
-use Rattle.theory.specs.Words.{sixteens}
 use Rattle.theory.proofs.Digits.{digits_length}
-use Rattle.words.proofs.Loops.{figure_from, figure-step, figure-end}
+use Rattle.words.proofs.Loops.{figure-step, figure-end}
 use Rattle.words.proofs.cost.Goals as goal
 
 pub loop-v-init : goal.loop-v-init

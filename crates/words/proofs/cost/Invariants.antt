@@ -2,14 +2,10 @@
 use Prim.Native.Nat.{◌+◌, ◌-◌, ◌*◌, ◌≤◌}
 use mathlib.Core.Path.{◌≡◌}
 use mathlib.Core.Bool.{false}
-use native.Mathlib.Omega.{arith}
-use native.Mathlib.Nat.{zero-add, sub-zero}
-use borrow.Author.Rules.{rules}
 use Rattle.model.specs.Digits.{digits}
 use Rattle.model.specs.Order.{cost}
 use Rattle.theory.specs.Words.{sixteens}
-use Rattle.theory.proofs.Digits.{digits_length}
-use Rattle.words.proofs.Loops.{figure_from, figure-step, figure-end}
+use Rattle.words.proofs.Loops.{figure_from}
 use Rattle.words.proofs.cost.Given as goal
 
 abbrev pub invariant-loop-v : goal.invariant-loop-v

@@ -1,5 +1,4 @@
 -- `words::is_assigned` meets its contract: the bit at a place says whether the variable there has a value. Assumes nothing.
-use borrow.Author.Rules.{rules}
 use lib.ListN.{get_or}
 use Rattle.model.specs.Digits.{digits}
 use Rattle.theory.proofs.Words.{assignment_at}

@@ -1,5 +1,4 @@
 -- `words::mask_fits` meets its contract: a shift past the first variables leaves the bits beyond them. Assumes nothing.
-use borrow.Author.Rules.{rules}
 use Rattle.words.proofs.Loops.{mask-shift}
 use Rattle.words.proofs.mask_fits.Goals as goal
 

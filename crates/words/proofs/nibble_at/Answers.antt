@@ -1,5 +1,4 @@
 -- `words::nibble_at` meets its contract: a shift and a conjunction are a division and a remainder. Assumes nothing.
-use borrow.Author.Rules.{rules}
 use Rattle.theory.proofs.WordsSet.{nibble-read, nibble-below}
 use Rattle.words.proofs.nibble_at.Goals as goal
 

@@ -1,5 +1,4 @@
 -- `words::remove` meets its contract: to clear a field subtracts its value at its place. Assumes nothing.
-use borrow.Author.Rules.{rules}
 use Rattle.theory.proofs.WordsSet.{remove-words}
 use Rattle.words.proofs.remove.Goals as goal
 

@@ -1,6 +1,4 @@
 -- `words::value` meets its contract: where the bit is zero the variable has no value, and otherwise its nibble is the value. Assumes nothing.
-use borrow.Author.Rules.{rules}
-use native.Mathlib.Omega.{arith}
 use Rattle.theory.proofs.Words.{assignment_at}
 use Rattle.words.proofs.Loops.{optional_some}
 use Rattle.words.proofs.value.Goals as goal

@@ -1,12 +1,10 @@
 -- `words::values_fit` meets its contract. The loop's invariant: the test of all variables is the answer so far and the test of those left. Assumes nothing.
-use Prim.Native.Nat.{◌+◌, ◌-◌, ◌≤◌}
-use mathlib.Core.Path.{◌≡◌, refl, sym, ◌∙◌}
-use mathlib.Core.Bool.{◌&&◌, and_assoc}
-use native.Mathlib.Omega.{arith}
-use borrow.Author.Rules.{rules}
+use Prim.Native.Nat.{◌-◌, ◌≤◌}
+use mathlib.Core.Path.{◌≡◌}
+use mathlib.Core.Bool.{◌&&◌}
 use lib.ListN.{take}
 use Rattle.model.specs.Assignment.{values_fit}
-use Rattle.words.proofs.Loops.{fit_from, fit-step, fit-end}
+use Rattle.words.proofs.Loops.{fit_from}
 use Rattle.words.proofs.values_fit.Given as goal
 
 abbrev pub invariant-loop-v : goal.invariant-loop-v

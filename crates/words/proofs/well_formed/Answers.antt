@@ -1,7 +1,6 @@
 -- `words::well_formed` meets its contract: both tests together are the definition. Assumes nothing.
 use mathlib.Core.Bool.{◌&&◌}
 use mathlib.Core.Path.{ap₂}
-use borrow.Author.Rules.{rules}
 use lib.ListN.{take}
 use lib.Seq.{length-take-le}
 use Rattle.model.specs.Assignment.{well_formed}

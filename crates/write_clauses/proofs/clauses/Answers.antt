@@ -5,7 +5,7 @@ use native.Mathlib.Omega.{arith}
 use lib.ListN.{length, get_or}
 use Rattle.theory.specs.Puts.{bits_of}
 use Rattle.theory.proofs.Bits.{bits_length}
-use Rattle.write_clauses.proofs.Tables.{ClausesTo, clauses-first, bytes-there, bytes_most, bytes-narrow, clause-room, clauses-next, clauses-put}
+use Rattle.write_clauses.proofs.Tables.{clauses-first, bytes-there, bytes_most, bytes-narrow, clause-room, clauses-next, clauses-put}
 use Rattle.write_clauses.proofs.clauses.Goals as goal
 
 pub loop-i-init : goal.loop-i-init

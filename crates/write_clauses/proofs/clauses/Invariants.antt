@@ -1,11 +1,9 @@
 -- `write_clauses::clauses` meets its contract. The loop's invariant: the clauses before the clause i are put, and its literals begin at the byte `from`. Assumes nothing.
-use Prim.Native.Nat.{◌+◌, ◌-◌, ◌*◌, ◌≤◌}
-use mathlib.Core.Path.{◌≡◌, refl}
-use native.Mathlib.Omega.{arith}
-use lib.ListN.{length, get_or}
+use Prim.Native.Nat.{◌-◌, ◌≤◌}
+use mathlib.Core.Path.{◌≡◌}
+use lib.ListN.{length}
 use Rattle.theory.specs.Puts.{bits_of}
-use Rattle.theory.proofs.Bits.{bits_length}
-use Rattle.write_clauses.proofs.Tables.{ClausesTo, clauses-first, bytes-there, bytes_most, bytes-narrow, clause-room, clauses-next, clauses-put}
+use Rattle.write_clauses.proofs.Tables.{ClausesTo}
 use Rattle.write_clauses.proofs.clauses.Given as goal
 
 abbrev pub invariant-loop-i : goal.invariant-loop-i

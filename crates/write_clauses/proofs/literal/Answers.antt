@@ -1,5 +1,4 @@
 -- `write_clauses::literal` meets its contract: the field's digits are those of the literal's three numbers. Assumes nothing.
-use borrow.Author.Rules.{rules}
 use Rattle.write_clauses.proofs.Literals.{literal-field}
 use Rattle.write_clauses.proofs.literal.Goals as goal
 

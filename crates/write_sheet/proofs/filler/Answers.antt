@@ -1,5 +1,4 @@
 -- `write_sheet::filler` meets its contract: a field of the number 0 is zero bits. Assumes nothing.
-use borrow.Author.Rules.{rules}
 use Prim.Native.Nat.{◌-◌, ◌%◌}
 use native.Mathlib.Omega.{arith}
 use lib.Pow.{pow_pos}

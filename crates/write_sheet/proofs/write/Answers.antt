@@ -1,5 +1,4 @@
 -- `write_sheet::write` meets its contract: the head, the variables, the clauses and the filler are put one after another. Assumes nothing.
-use borrow.Author.Rules.{rules}
 use native.Mathlib.Omega.{arith}
 use lib.ListN.{length}
 use Rattle.model.specs.Tables.{Tables, plant_of}

@@ -1,9 +1,8 @@
 -- `write_variables::decisions` meets its contract. The loop's invariant: the rows before place i are put, and the costs that are left belong to the others. Assumes nothing.
-use Prim.Native.Nat.{◌-◌}
 use native.Mathlib.Omega.{arith}
 use native.Mathlib.Nat.{add-sub_cancel_left}
-use lib.ListN.{length, get_or}
-use Rattle.write_variables.proofs.Laws.{RowsTo, rows_start, row-there, row_sized, row_room, rows_step, rows_end}
+use lib.ListN.{get_or}
+use Rattle.write_variables.proofs.Laws.{rows_start, row-there, row_sized, row_room, rows_step, rows_end}
 use Rattle.write_variables.proofs.decisions.Goals as goal
 
 pub loop-i-init : goal.loop-i-init

@@ -6,7 +6,7 @@ use Rattle.model.specs.Sheet.{edition1}
 use Rattle.theory.proofs.Digits.{digits_length}
 use Rattle.theory.proofs.Puts.{puts_then}
 use Rattle.theory.proofs.Bits.{bits_length}
-use Rattle.write_variables.proofs.Laws.{FieldsTo, fields-start, fields-room, fields-step, fields-end, row_length}
+use Rattle.write_variables.proofs.Laws.{fields-start, fields-room, fields-step, fields-end, row_length}
 use Rattle.write_variables.proofs.row.Goals as goal
 
 pub put-at-requires : goal.put-at-requires

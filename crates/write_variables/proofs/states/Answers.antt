@@ -1,10 +1,8 @@
 -- `write_variables::states` meets its contract. The loop's invariant: the fields of the sizes before place i are put. Assumes nothing.
-use Prim.Native.Nat.{◌-◌}
 use native.Mathlib.Omega.{arith}
-use lib.ListN.{length}
 use Rattle.theory.specs.Plant.{Sized}
 use Rattle.theory.proofs.Lists.{all-at}
-use Rattle.write_variables.proofs.Laws.{FieldsTo, fields-start, fields-room, fields-step, fields-end}
+use Rattle.write_variables.proofs.Laws.{fields-start, fields-room, fields-step, fields-end}
 use Rattle.write_variables.proofs.states.Goals as goal
 
 pub loop-i-init : goal.loop-i-init

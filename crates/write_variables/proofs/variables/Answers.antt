@@ -1,5 +1,4 @@
 -- `write_variables::variables` meets its contract: the decision variables are put, then the state variables. Assumes nothing.
-use borrow.Author.Rules.{rules}
 use mathlib.Core.Path.{sym}
 use native.Mathlib.Omega.{arith}
 use lib.Seq.{length-take-le}

@@ -1,16 +1,10 @@
 -- `evaluation::any_false` meets its contract. Where the set has all clauses, none is false. The loop: some clause is false exactly if one from i on is; a clause of the set is known not to be. Assumes nothing.
 use mathlib.Core.Path.{◌≡◌, refl, sym, ◌∙◌}
-use mathlib.Core.List.{map}
 use Prim.Native.Nat.{◌+◌, ◌*◌, ◌-◌}
-use lib.ListN.{length, drop}
-use Rattle.model.specs.Consistency.{any_false}
-use Rattle.model.specs.Tables.{clauses}
-use Rattle.theory.proofs.TableClauses.{clauses_length, Along, along-first, along-room, along-below, along-next, along-nth}
-use Rattle.clauses.specs.Bytes.{given}
+use Rattle.theory.proofs.TableClauses.{clauses_length, along-first, along-room, along-below, along-next, along-nth}
 use Rattle.theory.proofs.Search.{nth_any}
 use Rattle.clauses.proofs.Parts.{any_step, any_end}
 use native.Mathlib.Omega.{arith}
-use borrow.Author.Rules.{rules}
 use Rattle.clauses.proofs.evaluation.any_false.Goals as goal
 
 pub returns-then-has_all : goal.returns-then-has_all

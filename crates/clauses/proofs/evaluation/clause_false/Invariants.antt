@@ -1,16 +1,12 @@
 -- `evaluation::clause_false` meets its contract. The loop: the clause is false exactly if the literals from i on fail. Assumes nothing.
-use mathlib.Core.Path.{◌≡◌, refl, sym, ◌∙◌}
+use mathlib.Core.Path.{◌≡◌}
 use mathlib.Core.List.{map}
 use Prim.Native.Nat.{◌-◌, ◌≤◌, ◌<◌}
-use borrow.Author.Tests.{not-true, not-false}
 use lib.ListN.{length, drop}
 use Rattle.model.specs.Lists.{All}
 use Rattle.model.specs.Consistency.{clause_false}
 use Rattle.model.specs.Tables.{literals}
 use Rattle.clauses.specs.Bytes.{given}
-use Rattle.clauses.proofs.Parts.{below_step, false-step, false-end}
-use native.Mathlib.Omega.{arith}
-use borrow.Author.Rules.{rules}
 use Rattle.clauses.proofs.evaluation.clause_false.Given as goal
 
 abbrev pub invariant-loop-i : goal.invariant-loop-i

@@ -1,6 +1,5 @@
 -- `evaluation::fails` meets its contract: a clear clause is known not to be false. Assumes nothing.
 use mathlib.Core.Path.{sym}
-use borrow.Author.Rules.{rules}
 use Rattle.clauses.proofs.evaluation.fails.Goals as goal
 
 pub returns-then-clear : goal.returns-then-clear

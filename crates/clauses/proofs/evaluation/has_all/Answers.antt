@@ -1,6 +1,5 @@
 -- `evaluation::has_all` meets its contract: by the first word, or by both. Assumes nothing.
 use native.Mathlib.Omega.{arith}
-use borrow.Author.Rules.{rules}
 use Rattle.clauses.proofs.Pairs.{within_first, within_both}
 use Rattle.clauses.proofs.evaluation.has_all.Goals as goal
 

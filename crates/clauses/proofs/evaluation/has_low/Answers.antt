@@ -1,7 +1,6 @@
 -- `evaluation::has_low` meets its contract: by the bits below n, or by the whole word. Assumes nothing.
 use native.Mathlib.Omega.{arith}
 use lib.Pow.{suc_ones}
-use borrow.Author.Rules.{rules}
 use Rattle.clauses.proofs.Bits.{shl_one}
 use Rattle.clauses.proofs.Pairs.{low-within, full-within}
 use Rattle.clauses.proofs.evaluation.has_low.Goals as goal

@@ -2,7 +2,6 @@
 use mathlib.Core.Path.{sym, ◌∙◌}
 use Prim.Native.Nat.{◌-◌}
 use native.Mathlib.Omega.{arith}
-use borrow.Author.Rules.{rules}
 use Rattle.clauses.proofs.Bits.{bit-read}
 use Rattle.clauses.proofs.Pairs.{pair-first, pair-second, pair-past}
 use Rattle.clauses.proofs.evaluation.is_in.Goals as goal

@@ -1,7 +1,6 @@
 -- `evaluation::literal_fails` meets its contract: 16 gives nothing, and any other byte its value. Assumes nothing.
 use Rattle.clauses.specs.Bytes.{fails_at}
 use Rattle.clauses.proofs.Bytes.{given-none, given_some}
-use borrow.Author.Rules.{rules}
 use Rattle.clauses.proofs.evaluation.literal_fails.Goals as goal
 
 pub returns-then-a-eq-UNASSIGNED : goal.returns-then-a-eq-UNASSIGNED

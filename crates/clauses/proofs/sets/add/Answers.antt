@@ -1,6 +1,5 @@
 -- `sets::add` meets its contract: the word that it stores has one bit more. Assumes nothing.
 use Rattle.clauses.proofs.Marks.{add_marked}
-use borrow.Author.Rules.{rules}
 use Rattle.clauses.proofs.sets.add.Goals as goal
 
 pub returns : goal.returns

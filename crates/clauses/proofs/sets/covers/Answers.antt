@@ -1,7 +1,6 @@
 -- `sets::covers` meets its contract. The loop: `Lacking`, no bit lacks exactly if the words before k have none that the set has not. Assumes nothing.
 use mathlib.Core.Path.{◌≡◌}
-use Prim.Native.Nat.{◌-◌, ◌≤◌}
-use Rattle.clauses.proofs.Rows.{Lacking, lacking_first, lacking_step, lacking_end}
+use Rattle.clauses.proofs.Rows.{lacking_first, lacking_step, lacking_end}
 use native.Mathlib.Omega.{arith}
 use Rattle.clauses.proofs.sets.covers.Goals as goal
 

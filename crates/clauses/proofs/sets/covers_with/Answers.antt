@@ -3,7 +3,6 @@ use mathlib.Core.Path.{◌≡◌}
 use Prim.Native.Nat.{ℕ}
 use native.Mathlib.Omega.{arith}
 use Rattle.clauses.proofs.Rows.{first-inside, covers-joined}
-use borrow.Author.Rules.{rules}
 use Rattle.clauses.proofs.sets.covers_with.Goals as goal
 
 pub returns-then-due-set : goal.returns-then-due-set

@@ -1,7 +1,6 @@
 -- `sets::joined` meets its contract. The loop: the words before k are joined, and those from k on are as they were. Assumes nothing.
 use mathlib.Core.Path.{◌≡◌}
-use Prim.Native.Nat.{◌-◌, ◌≤◌}
-use Rattle.clauses.proofs.Rows.{Joining, joining_first, joining_step, joining_end}
+use Rattle.clauses.proofs.Rows.{joining_first, joining_step, joining_end}
 use native.Mathlib.Omega.{arith}
 use Rattle.clauses.proofs.sets.joined.Goals as goal
 

@@ -1,7 +1,6 @@
 -- `sets::store_less` meets its contract. The loop: the words of the row before k are stored. Assumes nothing.
 use mathlib.Core.Path.{◌≡◌}
-use Prim.Native.Nat.{◌-◌, ◌≤◌}
-use Rattle.clauses.proofs.Rows.{Storing, storing_first, storing_step, storing_end}
+use Rattle.clauses.proofs.Rows.{storing_first, storing_step, storing_end}
 use native.Mathlib.Omega.{arith}
 use Rattle.clauses.proofs.sets.store_less.Goals as goal
 

@@ -1,12 +1,8 @@
 -- `tables::mark` meets its contract. An equal literal has one row or none. The loop, for an unequal one: the rows of the values from x on are still to come. Assumes nothing.
-use Prim.Native.Nat.{◌-◌, ◌≤◌}
 use mathlib.Core.Path.{◌≡◌, refl, sym, ap, ◌∙◌}
-use mathlib.Core.Logic.{⊎_elim}
 use lib.ListN.{length}
-use Rattle.clauses.specs.Sets.{literal_rows}
-use Rattle.clauses.proofs.Marks.{Marking, marking_first, marking_step, marking_skip, marking_end, equal-marked, beyond_marked, rows_from, rows_all, rows_end, rows-fail, rows_hold}
+use Rattle.clauses.proofs.Marks.{marking_first, marking_step, marking_skip, marking_end, equal-marked, beyond_marked, rows_all, rows_end, rows-fail, rows_hold}
 use native.Mathlib.Omega.{arith}
-use borrow.Author.Rules.{rules}
 use Rattle.clauses.proofs.tables.mark.Goals as goal
 use Rattle.clauses.proofs.tables.mark.Goals.{then-holds, else-holds}
 

@@ -1,16 +1,8 @@
 -- `tables::mark_clause` meets its contract. The loop: the rows of the literals from i on are still to come. Assumes nothing.
-use mathlib.Core.Path.{◌≡◌, refl, ◌∙◌}
-use Prim.Native.Nat.{◌-◌, ◌≤◌, ◌<◌}
-use lib.ListN.{length, drop}
-use Rattle.model.specs.Lists.{All}
-use Rattle.model.specs.Tables.{literals}
-use Rattle.theory.specs.Search.{mentions}
-use Rattle.clauses.specs.Numbers.{variables}
-use Rattle.clauses.specs.Sets.{clause_rows}
-use Rattle.clauses.proofs.Marks.{Marking, marking_first, marking_step, marking_end}
+use mathlib.Core.Path.{refl, ◌∙◌}
+use Rattle.clauses.proofs.Marks.{marking_first, marking_step, marking_end}
 use Rattle.clauses.proofs.Parts.{below_step, rows_step, rows_none, mentions-step, mentions-none}
 use native.Mathlib.Omega.{arith}
-use borrow.Author.Rules.{rules}
 use Rattle.clauses.proofs.tables.mark_clause.Goals as goal
 
 pub loop-i-init : goal.loop-i-init

@@ -1,5 +1,5 @@
 -- `tables::mark_clause` meets its contract. The loop: the rows of the literals from i on are still to come. Assumes nothing.
-use mathlib.Core.Path.{◌≡◌, refl, ◌∙◌}
+use mathlib.Core.Path.{◌≡◌}
 use Prim.Native.Nat.{◌-◌, ◌≤◌, ◌<◌}
 use lib.ListN.{length, drop}
 use Rattle.model.specs.Lists.{All}
@@ -7,10 +7,7 @@ use Rattle.model.specs.Tables.{literals}
 use Rattle.theory.specs.Search.{mentions}
 use Rattle.clauses.specs.Numbers.{variables}
 use Rattle.clauses.specs.Sets.{clause_rows}
-use Rattle.clauses.proofs.Marks.{Marking, marking_first, marking_step, marking_end}
-use Rattle.clauses.proofs.Parts.{below_step, rows_step, rows_none, mentions-step, mentions-none}
-use native.Mathlib.Omega.{arith}
-use borrow.Author.Rules.{rules}
+use Rattle.clauses.proofs.Marks.{Marking}
 use Rattle.clauses.proofs.tables.mark_clause.Given as goal
 
 abbrev pub invariant-loop-i : goal.invariant-loop-i

@@ -1,11 +1,7 @@
 -- `tables::prepare` meets its contract. The loop: both tables have the clauses before i, whose literals end at `at`. Assumes nothing.
-use mathlib.Core.Path.{◌≡◌}
-use Prim.Native.Nat.{◌+◌, ◌*◌, ◌-◌}
+use Prim.Native.Nat.{◌-◌}
 use lib.ListN.{length}
-use Rattle.theory.proofs.TableClauses.{along-room, along-below}
-use Rattle.clauses.proofs.Filling.{Filling, filling_first, filling_next, filling_end}
-use native.Mathlib.Omega.{arith}
-use borrow.Author.Rules.{rules}
+use Rattle.clauses.proofs.Filling.{Filling}
 use Rattle.clauses.proofs.tables.prepare.Given as goal
 
 abbrev pub invariant-loop-i : goal.invariant-loop-i

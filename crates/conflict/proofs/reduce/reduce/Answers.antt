@@ -1,13 +1,7 @@
 -- `reduce::reduce` meets its contract. The loop: the model's reduction from v on, with what the two words hold, is the whole. Assumes nothing.
-use mathlib.Core.Path.{◌≡◌}
-use Prim.Native.Nat.{◌-◌, ◌≤◌}
 use native.Mathlib.Omega.{arith}
-use lib.ListN.{length}
-use borrow.Author.Rules.{rules}
-use Rattle.plan.specs.Plans.{plan_words}
-use Rattle.conflict.specs.Given.{ForWords}
 use Rattle.conflict.proofs.Given.{ready-again}
-use Rattle.conflict.proofs.Turns.{members, Going, going-first, going_next, going-stop, going_end}
+use Rattle.conflict.proofs.Turns.{members, going-first, going_next, going-stop, going_end}
 use Rattle.conflict.proofs.reduce.reduce.Goals as goal
 
 pub loop-v-init : goal.loop-v-init

@@ -3,8 +3,6 @@ use mathlib.Core.Path.{◌∙◌}
 use mathlib.Core.Option.{none}
 use native.Mathlib.Omega.{arith}
 use lib.ListN.{set}
-use borrow.Author.Rules.{rules}
-use borrow.Author.Tests.{not-true, not-false}
 use Rattle.conflict.proofs.Turns.{members, member, rest-valid, turn-free, turn-keep, turn_lose, turn-stop}
 use Rattle.conflict.proofs.reduce.without.Goals as goal
 

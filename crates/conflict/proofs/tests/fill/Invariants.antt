@@ -1,15 +1,10 @@
 -- `tests::fill` meets its contract. The loop: the bytes before v are those of the variables. Assumes nothing.
 use Prim.Native.Nat.{ℕ, ◌-◌, ◌≤◌, ◌<◌}
-use mathlib.Core.Path.{◌≡◌, ◌∙◌}
+use mathlib.Core.Path.{◌≡◌}
 use mathlib.Core.Option.{none}
-use native.Mathlib.Omega.{arith}
-use borrow.Author.Count.{below_more}
-use lib.ListN.{length, get_or, length-set}
-use lib.Seq.{get_or-set_same, get_or-set_other}
+use lib.ListN.{length, get_or}
 use Rattle.model.specs.Assignment.{assignment_of}
 use Rattle.theory.specs.Words.{byte}
-use Rattle.theory.proofs.Words.{assignment_length}
-use Rattle.conflict.proofs.Bytes.{by_bytes}
 use Rattle.conflict.proofs.tests.fill.Given as goal
 
 abbrev pub invariant-loop-v : goal.invariant-loop-v

@@ -1,6 +1,5 @@
 -- `tests::shown_of` meets its contract, by the cases of the answer. Assumes nothing.
 use mathlib.Core.Path.{refl}
-use borrow.Author.Rules.{rules}
 use Rattle.conflict.proofs.tests.shown_of.Goals as goal
 
 pub returns-in-Consistent : goal.returns-in-Consistent

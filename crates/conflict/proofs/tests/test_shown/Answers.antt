@@ -1,6 +1,5 @@
 -- `tests::test_shown` meets its contract: the filled bytes give the assignment to all variables, so the consistency test on them is the model's test, and what it leaves in them with zeros behind is what that test shows. Assumes nothing.
 use mathlib.Core.Path.{sym}
-use borrow.Author.Rules.{rules}
 use lib.Seq.{length-take-le}
 use Rattle.conflict.proofs.Given.{filled-room, ready-given, ready-ended}
 use Rattle.conflict.proofs.tests.test_shown.Goals as goal

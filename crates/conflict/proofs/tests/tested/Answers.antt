@@ -1,5 +1,4 @@
 -- `tests::tested` meets its contract: it is the test without what it shows. Assumes nothing.
-use borrow.Author.Rules.{rules}
 use Rattle.conflict.proofs.tests.tested.Goals as goal
 
 pub returns : goal.returns
