@@ -10,12 +10,12 @@ use borrow.Author.Tests.{ltb-false}
 use lib.Dec.{ltb}
 use lib.ListN.{length, get_or, take, replicate, length-map}
 use Rattle.model.specs.Lists.{Some, Mem, All, Pairs, Begins, filled, in_turn}
-use Rattle.model.specs.Sheet.{Plant, Read, got, Edition, edition_of, read_sheet, decision_sizes, sizes}
+use Rattle.model.specs.Sheet.{Plant, Read, got, edition_of, read_sheet, decision_sizes, sizes}
 use Rattle.model.specs.Assignment.{Assignment, code, full}
 use Rattle.model.specs.Conflict.{Conflict}
 use Rattle.model.specs.Order.{Order, Before, order_of, Entry, entry_of, leading_states, whole_set}
 use Rattle.model.specs.Listing.{State, Ending, ended}
-use Rattle.model.specs.Calls.{Ground, first_given, odd, refused, Buffers, host_grounds, offers_of, state_bytes, value_bytes, entry_words, buffers_after, counts_of, entries_of, run_list, called_of, run_of, listing_with}
+use Rattle.model.specs.Calls.{Ground, first_given, odd, Buffers, host_grounds, offers_of, state_bytes, value_bytes, entry_words, buffers_after, counts_of, entries_of, run_list, called_of, run_of, listing_with}
 use Rattle.theory.specs.BestFirst.{Inv}
 use Rattle.theory.specs.Plant.{Accepted, Sized}
 use Rattle.theory.specs.Order.{In, Lawful}

@@ -3,7 +3,7 @@ use mathlib.Core.Path.{◌≡◌, refl, sym, ◌∙◌}
 use mathlib.Core.Logic.{◌⊎◌, inl, inr, ◌↔◌}
 use mathlib.Core.Bool.{Bool, true, false, ◌&&◌, ◌||◌, or-true, false≢true}
 use mathlib.Core.List.{List, [], ◌∷◌, map}
-use Prim.Native.Nat.{ℕ, zero, suc, ◌+◌, ◌-◌, ◌^◌, ◌≤◌, ◌<◌}
+use Prim.Native.Nat.{ℕ, ◌-◌, ◌^◌, ◌≤◌, ◌<◌}
 use native.Mathlib.Omega.{arith}
 use native.Mathlib.Nat.{suc-mul, mul-le-mul_right, one-le-pow}
 use lib.Dec.{T, ltb, eqb}
@@ -14,15 +14,15 @@ use Rattle.model.specs.Lists.{All}
 use Rattle.model.specs.Sheet.{Plant, edition_of, decision_sizes}
 use Rattle.model.specs.Assignment.{Fits, code}
 use Rattle.model.specs.Order.{Order, better, figure_of, before, best_value, order_of, Before}
-use Rattle.theory.specs.Digits.{Below, Lex}
-use Rattle.theory.specs.Plant.{Sized, Accepted}
+use Rattle.theory.specs.Digits.{Lex}
+use Rattle.theory.specs.Plant.{Accepted}
 use Rattle.theory.specs.Order.{Lawful}
 use Rattle.theory.specs.Value.{Better, BestValue}
 use Rattle.theory.proofs.Lists.{all_map, all_image}
 use Rattle.theory.proofs.Digits.{lex_exactly, number_injective, number-set, trichotomy}
 use Rattle.theory.proofs.Agreement.{fits_length, fits-at}
-use Rattle.theory.proofs.Figures.{NoZero, fits_below, others, others-positive, figure-better, figure-same}
-use Rattle.theory.proofs.Value.{better-true, value-best, values-best, edition-weighed, edition-few}
+use Rattle.theory.proofs.Figures.{fits_below, others, others-positive, figure-better, figure-same}
+use Rattle.theory.proofs.Value.{better-true, value-best, values-best, edition-few}
 
 -- ---- the code
 
