@@ -1,8 +1,9 @@
 // Numbers, high byte first, and blocks from a reader. Past its end there are zeros, and blocks are short.
-ghost use Rattle.std.specs.Prelude.{◌≡◌, ◌<◌, ◌≤◌, IfOk, length, min, take};
+ghost use Rattle.std.specs.Prelude.{◌≡◌, ◌<◌, ◌≤◌, IfOk, OnErr, length, min, take};
 ghost use Rattle.std.specs.Io.{ReadsAtMost};
 ghost use Rattle.std.specs.Io.KnownBytes.{Consumes, IsAtEnd};
 ghost use Rattle.vectors.specs.Bytes.{over, shift};
+ghost use Rattle.vectors.specs.Reads.{ConsumesFront};
 
 use std::io;
 use std::io::Read;
@@ -30,6 +31,7 @@ pub fn read_full<R: Read>(input: &mut R, buf: &mut [u8]) -> io::Result<usize>
     ensures bound { ReadsAtMost result buf.new }
     ensures bytes { IfOk result (λ n. Consumes (R.remaining input.old) (R.remaining input.new) (take n buf.new)) }
     ensures end { IfOk result (λ n. n < length buf.new → IsAtEnd (R.remaining input.new)) }
+    ensures err { OnErr result (ConsumesFront (R.remaining input.old) (R.remaining input.new) buf.new) }
 {
     let mut done = 0;
     for _turn in 0..buf.len() {
@@ -81,6 +83,7 @@ pub fn read_block<R: Read>(input: &mut R, buf: &mut [u8], n: usize) -> io::Resul
     ensures asked { IfOk result (λ k. k ≤ n) }
     ensures bytes { IfOk result (λ k. Consumes (R.remaining input.old) (R.remaining input.new) (take k buf.new)) }
     ensures end { IfOk result (λ k. k < n → k < length buf.new → IsAtEnd (R.remaining input.new)) }
+    ensures err { OnErr result (ConsumesFront (R.remaining input.old) (R.remaining input.new) buf.new) }
 {
     let most = least(n, buf.len());
     read_full(input, &mut buf[..most])
