@@ -3,7 +3,7 @@ ghost use Rattle.std.specs.Prelude.{◌≡◌, ◌<◌, ◌≤◌, IfOk, OnErr, 
 ghost use Rattle.std.specs.Io.{ReadsAtMost};
 ghost use Rattle.std.specs.Io.KnownBytes.{Consumes, IsAtEnd};
 ghost use Rattle.vectors.specs.Bytes.{over, shift};
-ghost use Rattle.vectors.specs.Reads.{ConsumesFront};
+ghost use Rattle.vectors.specs.Reads.{ConsumesAtMost, ConsumesFront};
 
 use std::io;
 use std::io::Read;
@@ -48,7 +48,9 @@ pub fn read_full<R: Read>(input: &mut R, buf: &mut [u8]) -> io::Result<usize>
 }
 
 // Reads a byte.
-pub fn read_u8<R: Read>(input: &mut R) -> io::Result<u8> {
+pub fn read_u8<R: Read>(input: &mut R) -> io::Result<u8>
+    ensures { ConsumesAtMost 1 (R.remaining input.old) (R.remaining input.new) }
+{
     let mut byte = [0u8; 1];
     read_full(input, &mut byte)?;
     Ok(byte[0])
@@ -56,7 +58,8 @@ pub fn read_u8<R: Read>(input: &mut R) -> io::Result<u8> {
 
 // Reads a number of two bytes.
 pub fn read_u16<R: Read>(input: &mut R) -> io::Result<usize>
-    ensures { IfOk result (λ n. n < 65536) }
+    ensures bound { IfOk result (λ n. n < 65536) }
+    ensures read { ConsumesAtMost 2 (R.remaining input.old) (R.remaining input.new) }
 {
     let mut bytes = [0u8; 2];
     read_full(input, &mut bytes)?;
@@ -64,14 +67,18 @@ pub fn read_u16<R: Read>(input: &mut R) -> io::Result<usize>
 }
 
 // Reads a number of four bytes.
-pub fn read_u32<R: Read>(input: &mut R) -> io::Result<u32> {
+pub fn read_u32<R: Read>(input: &mut R) -> io::Result<u32>
+    ensures { ConsumesAtMost 4 (R.remaining input.old) (R.remaining input.new) }
+{
     let mut bytes = [0u8; 4];
     read_full(input, &mut bytes)?;
     Ok((number(&bytes) % 4294967296) as u32)
 }
 
 // Reads a number of eight bytes.
-pub fn read_u64<R: Read>(input: &mut R) -> io::Result<u64> {
+pub fn read_u64<R: Read>(input: &mut R) -> io::Result<u64>
+    ensures { ConsumesAtMost 8 (R.remaining input.old) (R.remaining input.new) }
+{
     let mut bytes = [0u8; 8];
     read_full(input, &mut bytes)?;
     Ok(number(&bytes))
