@@ -26,7 +26,7 @@
  *
  *     cc program.c $(pkg-config --cflags --libs leading)
  *
- * It asks for memset and for nothing else.
+ * It asks for memset and memcpy and for nothing else.
  *
  * - No allocation, no input or output, no locks, no errno. All memory is yours.
  * - No global state: re-entrant, and safe in many threads at once, each call
