@@ -1,1 +1,1 @@
-pub mod Padding
+pub mod Front
