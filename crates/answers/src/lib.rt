@@ -1,20 +1,26 @@
 // How the programs print an answer's kind: a refusal by its number, an ending by its name.
 #![tactic(auto)]
 
+ghost use Rattle.printing.specs.Front.{Grows};
+
 use judge::Ending;
 use printing::{print_number, print_text};
 use refusal::Refusal;
 use std::io;
 use std::io::Write;
 
-// Prints a refusal by its number, and the byte that follows it.
-pub fn print_refusal<W: Write>(out: &mut W, r: Refusal, after: u8) -> io::Result<()> {
+// Prints a refusal by its number, and the byte that follows it. Whatever it answers, the writer keeps the bytes that it had.
+pub fn print_refusal<W: Write>(out: &mut W, r: Refusal, after: u8) -> io::Result<()>
+    ensures { Grows (W.contents out.old) (W.contents out.new) }
+{
     print_text(out, b"refused ")?;
     print_number(out, refusal::number(r) as u64, after)
 }
 
-// Prints the name of an ending and a space.
-pub fn print_ending<W: Write>(out: &mut W, e: Ending) -> io::Result<()> {
+// Prints the name of an ending and a space. The same holds.
+pub fn print_ending<W: Write>(out: &mut W, e: Ending) -> io::Result<()>
+    ensures { Grows (W.contents out.old) (W.contents out.new) }
+{
     match e {
         Ending::Enough => print_text(out, b"enough "),
         Ending::All => print_text(out, b"all "),
