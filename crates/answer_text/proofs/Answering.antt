@@ -8,9 +8,8 @@ use Rattle.model.specs.Calls.{Refusal, refusal_number, Answer, refused, answered
 use Rattle.model.specs.Text.{wanted_states, trial_limit, program_buffers, answer_text, refusal_line, leading_text}
 use Rattle.theory.specs.Puts.{written, Puts}
 use Rattle.theory.proofs.Puts.{written_length}
-use Rattle.judge.specs.declared.Ending.{Ending}
 use Rattle.judge.specs.Standing.{ending_of}
-use Rattle.listing.specs.declared.Counts.{Counts}
+use Rattle.listing.specs.declared.Ran.{Ran}
 use Rattle.listing.specs.Listing.{counts_of}
 use Rattle.listing_call.specs.Calls.{shown}
 use Rattle.answer_text.specs.Room.{run_text}
@@ -28,10 +27,9 @@ pub refused_text : (sheet : List ℕ) (r : Refusal) (after : Buffers) → Shows 
 unfolding answer_text
 refused_text sheet r after e = text_shown sheet (refused r) after e
 
-pub ran_text : (sheet : List ℕ) (e : Ending) (c : Counts) (after : Buffers) → Shows sheet (answered (ran (ending_of e) (counts_of c))) after
-    → leading_text sheet ≡ run_text after.codes after.costs e c
+pub ran_text : (sheet : List ℕ) (r : Ran) (after : Buffers) → Shows sheet (answered (ran (ending_of r.ending) (counts_of r.counts))) after → leading_text sheet ≡ run_text after.codes after.costs r
 unfolding answer_text
-ran_text sheet e c after s = text_shown sheet (answered (ran (ending_of e) (counts_of c))) after s
+ran_text sheet r after s = text_shown sheet (answered (ran (ending_of r.ending) (counts_of r.counts))) after s
 
 -- a text that was put from the start of the buffer
 pub puts_whole : {text whole before after : List ℕ} {next : ℕ} → whole ≡ text → length text ≤ length before → Puts 0 text before next after

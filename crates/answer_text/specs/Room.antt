@@ -2,14 +2,13 @@
 use Rattle.std.specs.Prelude.{List, ◌++◌, ℕ, ◌+◌, ◌*◌}
 use Rattle.model.specs.Text.{wanted_states, ending_line}
 use Rattle.lines.specs.Lines.{lines_of, line_bytes, counts_bytes}
-use Rattle.judge.specs.declared.Ending.{Ending}
 use Rattle.judge.specs.Standing.{ending_of}
-use Rattle.listing.specs.declared.Counts.{Counts}
+use Rattle.listing.specs.declared.Ran.{Ran}
 use Rattle.listing.specs.Listing.{counts_of}
 
 -- the text of a run
-abbrev pub run_text : (codes costs : List ℕ) → Ending → Counts → List ℕ
-run_text codes costs e c = lines_of codes costs c.listed ++ ending_line (ending_of e) (counts_of c)
+abbrev pub run_text : (codes costs : List ℕ) → Ran → List ℕ
+run_text codes costs r = lines_of codes costs r.counts.listed ++ ending_line (ending_of r.ending) (counts_of r.counts)
 
 -- the bytes of an ending's word at most
 abbrev pub word_bytes : ℕ

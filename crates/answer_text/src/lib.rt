@@ -2,16 +2,14 @@
 // states of its plant, then how the run ended; or the number of the refusal.
 #![tactic(auto)]
 
-ghost use Rattle.std.specs.Prelude.{◌+◌, ◌≤◌, ◌≡◌, length};
-ghost use Rattle.model.specs.Text.{ending_word, leading_text};
+ghost use Rattle.std.specs.Prelude.{◌≤◌, ◌≡◌, length};
+ghost use Rattle.model.specs.Text.{leading_text};
 ghost use Rattle.theory.specs.Puts.{written, Puts};
-ghost use Rattle.judge.specs.Standing.{ending_of};
 ghost use Rattle.answer_text.specs.Room.{run_text};
 
-use judge::Ending;
 use limits::STATE_BYTES;
 use lines::{put_counts, put_refusal, put_states};
-use listing::{Answer, Counts};
+use listing::Ran;
 use text::put_bytes;
 
 // States wanted.
@@ -29,26 +27,14 @@ const TRIAL_LIMIT: u32 = 1_000_000;
 // Bytes of a text at most.
 pub const TEXT_BYTES: usize = 1_085;
 
-// Puts the word of an ending.
-fn put_ending(out: &mut [u8], at: usize, e: Ending) -> usize
-    requires { at + length (ending_word (ending_of e)) ≤ length out.old }
-    ensures { Puts at (ending_word (ending_of e)) out.old result out.new }
-{
-    match e {
-        Ending::Enough => put_bytes(out, at, b"enough "),
-        Ending::All => put_bytes(out, at, b"all "),
-        Ending::Full => put_bytes(out, at, b"full "),
-        Ending::Spent => put_bytes(out, at, b"spent "),
-    }
-}
-
 // Puts the lines of a run.
-fn put_run(out: &mut [u8], codes: &[u64], costs: &[u32], e: Ending, c: Counts) -> usize
-    requires { (c.listed ≤ length codes.now) × (c.listed ≤ length costs.now) × (length (run_text codes.now costs.now e c) ≤ length out.old) }
-    ensures { Puts 0 (run_text codes.now costs.now e c) out.old result out.new }
+fn put_run(out: &mut [u8], codes: &[u64], costs: &[u32], ran: Ran) -> usize
+    requires { (ran.counts.listed ≤ length codes.now) × (ran.counts.listed ≤ length costs.now) × (length (run_text codes.now costs.now ran) ≤ length out.old) }
+    ensures { Puts 0 (run_text codes.now costs.now ran) out.old result out.new }
 {
+    let c = ran.counts;
     let listed = put_states(out, 0, codes, costs, c.listed as usize);
-    let ended = put_ending(out, listed, e);
+    let ended = put_bytes(out, listed, ran.ending.word());
     put_counts(
         out, ended, c.listed, c.tested, c.learned, c.unkept, c.trials,
     )
@@ -75,7 +61,7 @@ pub fn leading_text(sheet: &[u8], out: &mut [u8; TEXT_BYTES]) -> usize
         0,
         TRIAL_LIMIT,
     ) {
-        Answer::Refused(r) => put_refusal(out, 0, refusal::number(r)),
-        Answer::Ran(e, c) => put_run(out, &codes, &costs, e, c),
+        Err(refusal) => put_refusal(out, 0, refusal.number()),
+        Ok(ran) => put_run(out, &codes, &costs, ran),
     }
 }

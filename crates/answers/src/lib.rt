@@ -14,17 +14,12 @@ pub fn print_refusal<W: Write>(out: &mut W, r: Refusal, after: u8) -> io::Result
     ensures { Grows (W.contents out.old) (W.contents out.new) }
 {
     print_text(out, b"refused ")?;
-    print_number(out, refusal::number(r) as u64, after)
+    print_number(out, u64::from(r.number()), after)
 }
 
 // Prints the name of an ending and a space. The same holds.
 pub fn print_ending<W: Write>(out: &mut W, e: Ending) -> io::Result<()>
     ensures { Grows (W.contents out.old) (W.contents out.new) }
 {
-    match e {
-        Ending::Enough => print_text(out, b"enough "),
-        Ending::All => print_text(out, b"all "),
-        Ending::Full => print_text(out, b"full "),
-        Ending::Spent => print_text(out, b"spent "),
-    }
+    print_text(out, e.word())
 }

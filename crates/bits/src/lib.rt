@@ -1,7 +1,6 @@
-// Bit fields of a lent sheet: the unsigned number that stands at a bit place, most significant bit first, or the word that
+// Bit fields of a lent sheet: the unsigned number that stands at a bit place, most significant bit first, or nothing where
 // it runs past the end; and a number put there. A field of at most 16 bits lies in the three bytes around its place. The
-// functions on a slice and a place do the work; the reader further down holds both, and `three` goes through it with plain
-// parameters.
+// functions on a slice and a place do the work; the reader further down holds both.
 #![tactic(auto)]
 
 ghost use Rattle.std.specs.Prelude.{◌≡◌, ◌+◌, ◌-◌, ◌*◌, ◌/◌, ◌%◌, ◌≤◌, ◌<◌, ◌^◌, length, get_or, drop, set};
@@ -15,18 +14,11 @@ ghost use Rattle.bits.specs.Blend.{blended};
 // The least number that is no word of three bytes.
 const ABOVE_WORDS: u32 = 16777216;
 
-// What stands at a place: a number, or nothing because the field runs past the end.
-#[derive(Clone, Copy)]
-pub enum Field {
-    Value(u32),
-    Past,
-}
-
 // A byte of the sheet, zero past the end.
 fn byte(sheet: &[u8], i: usize) -> u32
     ensures { (result ≡ get_or sheet.now i 0) × (result < 256) }
 {
-    if i < sheet.len() { sheet[i] as u32 } else { 0 }
+    sheet.get(i).map_or(0, |b| u32::from(*b))
 }
 
 // The three bytes around a place as one word, the first byte's bits most significant, with zeros past the end.
@@ -58,16 +50,16 @@ pub fn value(sheet: &[u8], place: usize, w: usize) -> u32
     (all >> behind) & ((1 << w) - 1)
 }
 
-// The field of w bits at a place, or that it runs past the end.
-pub fn field_at(sheet: &[u8], place: usize, w: usize) -> Field
+// The field of w bits at a place, or nothing where it runs past the end.
+pub fn field_at(sheet: &[u8], place: usize, w: usize) -> Option<u32>
     requires { w ≤ 16 }
     ensures { field_of (place + w) result ≡ field sheet.now w place }
 {
     let last = place / 8 + (place % 8 + w + 7) / 8;
     if last <= sheet.len() {
-        Field::Value(value(sheet, place, w))
+        Some(value(sheet, place, w))
     } else {
-        Field::Past
+        None
     }
 }
 
@@ -78,31 +70,32 @@ pub struct Reader<'a> {
     pub place: usize,
 }
 
-// A reader that stands over a sheet at a place.
-pub fn over<'a>(sheet: &'a [u8], place: usize) -> Reader<'a>
-    ensures { (result.sheet ≡ sheet.entry) × (result.place ≡ place) }
-{
-    Reader { sheet, place }
-}
+impl<'a> Reader<'a> {
+    // A reader that stands over a sheet at a place.
+    pub fn over(sheet: &'a [u8], place: usize) -> Reader<'a>
+        ensures { (result.sheet ≡ sheet.entry) × (result.place ≡ place) }
+    {
+        Reader { sheet, place }
+    }
 
-// Takes the field of w bits at the reader's place, and moves the reader on past it.
-pub fn take<'s, 'a>(r: &'s mut Reader<'a>, w: usize) -> Field
-    requires { (w ≤ 16) × (r.old.place + w < 2 ^ 64) }
-    ensures { (r.new.sheet ≡ r.old.sheet) × (r.new.place ≡ r.old.place + w)
-        × (field_of (r.old.place + w) result ≡ field r.old.sheet.now w r.old.place) }
-{
-    let place = r.place;
-    let f = field_at(r.sheet, place, w);
-    r.place = place + w;
-    f
+    // Takes the field of w bits at the reader's place, and moves the reader on past it.
+    pub fn take(&mut self, w: usize) -> Option<u32>
+        requires { (w ≤ 16) × (self.old.place + w < 2 ^ 64) }
+        ensures { (self.new.sheet ≡ self.old.sheet) × (self.new.place ≡ self.old.place + w)
+            × (field_of (self.old.place + w) result ≡ field self.old.sheet.now w self.old.place) }
+    {
+        let place = self.place;
+        self.place = place + w;
+        field_at(self.sheet, place, w)
+    }
 }
 
 // Three fields that stand one after another.
 #[derive(Clone, Copy)]
 pub struct Fields {
-    pub first: Field,
-    pub second: Field,
-    pub third: Field,
+    pub first: Option<u32>,
+    pub second: Option<u32>,
+    pub third: Option<u32>,
 }
 
 // The fields of a, b and c bits that stand one after another from a place on, each as if it were asked for alone.
@@ -112,14 +105,11 @@ pub fn three(sheet: &[u8], place: usize, a: usize, b: usize, c: usize) -> Fields
         × (field_of (place + a + b) result.second ≡ field sheet.now b (place + a))
         × (field_of (place + a + b + c) result.third ≡ field sheet.now c (place + a + b)) }
 {
-    let mut r = over(sheet, place);
-    let first = take(&mut r, a);
-    let second = take(&mut r, b);
-    let third = take(&mut r, c);
+    let mut reader = Reader::over(sheet, place);
     Fields {
-        first,
-        second,
-        third,
+        first: reader.take(a),
+        second: reader.take(b),
+        third: reader.take(c),
     }
 }
 
@@ -128,7 +118,7 @@ fn set_byte(sheet: &mut [u8], i: usize, keep: u32, field: u32)
     ensures { sheet.new ≡ set sheet.old i (blended (get_or sheet.old i 0) keep field % 256) }
 {
     if i < sheet.len() {
-        sheet[i] = ((sheet[i] as u32 & keep | field) % 256) as u8;
+        sheet[i] = ((u32::from(sheet[i]) & keep | field) % 256) as u8;
     }
 }
 

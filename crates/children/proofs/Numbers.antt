@@ -31,6 +31,7 @@ use Rattle.queue.proofs.EntryLaws.{mask-back, code-back, figure-back, state-word
 use Rattle.queue.proofs.Callers.{edition-suits}
 use Rattle.children.specs.Children.{NodeIs, Free}
 use Rattle.children.specs.declared.Node.{Node}
+use Rattle.children.specs.declared.Choices.{Choices}
 
 module _ (w : Bool) (p : Plant) (ok : Accepted (edition_of w) p) where
   -- what the queue asks of the order
@@ -93,7 +94,16 @@ code-set f v x s a l h =
     (assign_words (set (full f) v none) _ _ r v (rw (length-set (full f) v none) long) x h (get_or-set_same (full f) v none none long)).values-is
     ∙ rw (set-set (full f) v none (some x), full-set f v x) (ap code (values-full (set f v x)))
 
-module _ {w : Bool} {p : Plant} {n : Assignment} {node : Node} {v : ℕ} {costs : List ℕ} {preferred : ℕ} (i : NodeIs w p n node) (f : Free w p n v costs preferred) where
+module _ {choices : Choices} {p : Plant} {n : Assignment} {node : Node} {v : ℕ} (i : NodeIs choices.weighed p n node) (f : Free p n v choices) where
+  abbrev w : Bool
+  w = choices.weighed
+
+  abbrev costs : List ℕ
+  costs = choices.prices.now
+
+  abbrev preferred : ℕ
+  preferred = choices.preferred
+
   abbrev o : Order
   o = order_of (edition_of w) p
 

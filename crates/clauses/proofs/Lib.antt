@@ -1,6 +1,7 @@
 pub mod Bits
 pub mod Bytes
 pub mod Callers
+pub mod Chunks
 pub mod Filling
 pub mod Marks
 pub mod Pairs

@@ -1,7 +1,8 @@
 // Sets of at most 512 clauses: a set is eight words, and a table has a set in each of its rows.
 ghost use Rattle.std.specs.Prelude.{◌≡◌, true, ◌||◌, ◌+◌, ◌*◌, ◌<◌, ◌≤◌, length, eqb};
 ghost use Rattle.clauses.specs.Numbers.{most_clauses, set_words};
-ghost use Rattle.clauses.specs.Sets.{in_set, Joined, Covers, Less, Marked};
+ghost use Rattle.clauses.specs.Sets.{bit, in_set, Joined, Covers, Less, Marked, Within};
+ghost use Rattle.clauses.specs.Pairs.{difference, of_pair, pair_at, union};
 
 use limits::{VALUES, VARIABLES};
 
@@ -27,10 +28,8 @@ pub fn joined(set: Set, table: &[u64], row: usize) -> Set
     ensures { Joined set table.now row true result }
 {
     let mut out = set;
-    let mut k = 0;
-    while k < SET_WORDS {
-        out[k] = out[k] | table[row * SET_WORDS + k];
-        k += 1;
+    for (k, word) in out.iter_mut().enumerate() {
+        *word |= table[row * SET_WORDS + k];
     }
     out
 }
@@ -52,11 +51,9 @@ pub fn covers(table: &[u64], row: usize, set: Set) -> bool
     ensures { Covers table.now row (in_set set 0) result }
 {
     let mut lacks = 0u64;
-    let mut k = 0;
-    while k < SET_WORDS {
+    for (k, held) in set.iter().enumerate() {
         let due = table[row * SET_WORDS + k];
-        lacks = lacks | (due ^ (due & set[k]));
-        k += 1;
+        lacks |= due ^ (due & *held);
     }
     lacks == 0
 }
@@ -78,11 +75,9 @@ pub fn store_less(to: &mut [u64], table: &[u64], row: usize, set: Set)
     requires { (row * set_words + set_words ≤ length to.old) × (row * set_words + set_words ≤ length table.now) }
     ensures { Less to.old table.now row set to.new }
 {
-    let mut k = 0;
-    while k < SET_WORDS {
+    for (k, held) in set.iter().enumerate() {
         let at = row * SET_WORDS + k;
-        to[at] = table[at] ^ (table[at] & set[k]);
-        k += 1;
+        to[at] = table[at] ^ (table[at] & *held);
     }
 }
 
@@ -92,5 +87,84 @@ pub fn add(table: &mut [u64], row: usize, c: usize)
     ensures { Marked (λ r. eqb row r) table.old c table.new }
 {
     let at = row * SET_WORDS + c / 64;
-    table[at] = table[at] | (1u64 << (c % 64));
+    table[at] |= 1u64 << (c % 64);
+}
+
+// A set of at most 128 clauses: the first two words of a set.
+#[derive(Clone, Copy)]
+pub struct PairSet {
+    pub first: u64,
+    pub second: u64,
+}
+
+// Whether the word has each of its first n bits.
+fn has_low(word: u64, n: usize) -> bool
+    ensures { Within n (λ _. true) (bit word) result }
+{
+    if n < 64 {
+        let low = (1u64 << n) - 1;
+        return low & word == low;
+    }
+    (n == 64) & (word == u64::MAX)
+}
+
+impl PairSet {
+    pub const EMPTY: PairSet = PairSet {
+        first: 0,
+        second: 0,
+    };
+
+    // The two words at the place.
+    pub fn at(words: &[u64], place: usize) -> PairSet
+        requires { place + 2 ≤ length words.now }
+        ensures { result ≡ pair_at words.now place }
+    {
+        PairSet {
+            first: words[place],
+            second: words[place + 1],
+        }
+    }
+
+    // The clauses of both sets.
+    pub fn with(self, other: PairSet) -> PairSet
+        ensures { result ≡ union self other }
+    {
+        PairSet {
+            first: self.first | other.first,
+            second: self.second | other.second,
+        }
+    }
+
+    // The clauses of this set that the other has not.
+    pub fn without(self, other: PairSet) -> PairSet
+        ensures { result ≡ difference self other }
+    {
+        PairSet {
+            first: self.first ^ (self.first & other.first),
+            second: self.second ^ (self.second & other.second),
+        }
+    }
+
+    // Whether the clause c is in the set.
+    pub fn contains(self, c: usize) -> bool
+        ensures { result ≡ of_pair self c }
+    {
+        if c < 64 {
+            return self.first >> c & 1 == 1;
+        }
+        if c < PAIR_CLAUSES {
+            return self.second >> (c - 64) & 1 == 1;
+        }
+        false
+    }
+
+    // Whether the set has each of the first n clauses.
+    pub fn has_all(self, n: usize) -> bool
+        ensures { Within n (λ _. true) (of_pair self) result }
+    {
+        if n <= 64 {
+            return has_low(self.first, n);
+        }
+        has_low(self.first, 64) & has_low(self.second, n - 64)
+    }
 }

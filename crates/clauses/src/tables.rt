@@ -8,8 +8,20 @@ ghost use Rattle.clauses.specs.Sets.{Empty, Marked, literal_rows, Entered};
 ghost use Rattle.clauses.specs.Tables.{Tables, Prepared};
 
 use super::evaluation::holds;
-use super::sets::add;
-use limits::{UNASSIGNED, VALUES, wide};
+use super::sets::{Sat, add};
+use limits::{UNASSIGNED, VALUES};
+
+// A plant as the test goes by it: its number of decision variables, its decoded tables, and the two tables of sets that are
+// made of its clauses.
+#[derive(Clone, Copy)]
+pub struct Decoded<'a> {
+    pub decisions: usize,
+    pub sizes: &'a [u8],
+    pub counts: &'a [u8],
+    pub lits: &'a [u8],
+    pub sat: &'a Sat,
+    pub uses: &'a [u64],
+}
 
 // Puts the clause c into the rows of the values at which one of its literals holds.
 fn mark(sat: &mut [u64], var: usize, sign: u8, value: u8, c: usize)
@@ -19,16 +31,14 @@ fn mark(sat: &mut [u64], var: usize, sign: u8, value: u8, c: usize)
     // An equal literal holds at one value, so that there is no need to try each.
     if sign == 0 {
         if value < UNASSIGNED {
-            add(sat, var * VALUES + wide(value), c);
+            add(sat, var * VALUES + usize::from(value), c);
         }
         return;
     }
-    let mut x: u8 = 0;
-    while x < UNASSIGNED {
+    for x in 0..UNASSIGNED {
         if holds(x, sign, value) {
-            add(sat, var * VALUES + wide(x), c);
+            add(sat, var * VALUES + usize::from(x), c);
         }
-        x += 1;
     }
 }
 
@@ -37,12 +47,11 @@ fn mark_clause(sat: &mut [u64], uses: &mut [u64], part: &[u8], c: usize)
     requires { All (λ l. l.variable < variables) (literals part.now) × (sat_words ≤ length sat.old) × (uses_words ≤ length uses.old) × (c < most_clauses) }
     ensures { Entered (literals part.now) c sat.old uses.old sat.new uses.new }
 {
-    let mut i = 0;
-    while i + 2 < part.len() {
-        let var = wide(part[i]);
-        mark(sat, var, part[i + 1], part[i + 2], c);
+    let (literals, _) = part.as_chunks::<3>();
+    for [variable, sign, value] in literals {
+        let var = usize::from(*variable);
+        mark(sat, var, *sign, *value, c);
         add(uses, var, c);
-        i += 3;
     }
 }
 
@@ -52,11 +61,9 @@ pub fn prepare(counts: &[u8], lits: &[u8], sat: &mut [u64], uses: &mut [u64])
     ensures { Prepared (clauses counts.now lits.now) sat.new uses.new }
 {
     let mut at = 0;
-    let mut i = 0;
-    while i < counts.len() {
-        let end = at + 3 * wide(counts[i]);
+    for (i, count) in counts.iter().enumerate() {
+        let end = at + 3 * usize::from(*count);
         mark_clause(sat, uses, &lits[at..end], i);
         at = end;
-        i += 1;
     }
 }

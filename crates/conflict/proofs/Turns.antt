@@ -19,7 +19,9 @@ use Rattle.theory.proofs.Words.{words_hold}
 use Rattle.trials.specs.declared.Answer.{Answer}
 use Rattle.trials.specs.Answers.{answer_of}
 use Rattle.trials.proofs.Endings.{was_consistent, was_inconsistent, was_spent}
-use Rattle.conflict.specs.declared.reduce.Reduced.{Reduced}
+use Rattle.std.specs.Prelude.{Result, Ok, Err}
+use Rattle.conflict.specs.declared.reduce.Reduction.{Reduction}
+use Rattle.conflict.specs.declared.reduce.Spent.{Spent}
 use Rattle.conflict.specs.Reduced.{Held, Turned, Reduces}
 use Rattle.conflict.proofs.Given.{as_ended}
 
@@ -49,21 +51,21 @@ module _ {p : Plant} {d : ℕ} {domains costs counts lits : List ℕ} (t : Table
     rest-valid = valid-set (decision_sizes p) c v none valid tt
 
     module _ (limit used : ℕ) where
-      pub turn-free : is_some (get_or c v none) ≡ false → Turned p limit v c used (Reduced.Conflict mask values used)
+      pub turn-free : is_some (get_or c v none) ≡ false → Turned p limit v c used (Ok (record { mask = mask; values = values; trials = used }))
       turn-free e = (c, record { words = w; valid = valid }, λ n. reduce_skip p limit n v c used (no_value (get_or c v none) e))
 
       module _ (e : is_some (get_or c v none) ≡ true) {r : Answer} (ended : r ≡ answer_of (test p limit (set c v none) used)) {u : ℕ} where
-        pub turn-keep : r ≡ Answer.Consistent u → Turned p limit v c used (Reduced.Conflict mask values u)
+        pub turn-keep : r ≡ Answer.Consistent u → Turned p limit v c used (Ok (record { mask = mask; values = values; trials = u }))
         turn-keep q =
             let x = value_of (get_or c v none) e in
             (c, record { words = w; valid = valid }, λ n. reduce-keep p limit n v c used x.0 x.1 _ u (was_consistent _ _ _ u r (as_ended ended) q))
 
-        pub turn_lose : {m x : ℕ} → Words (set c v none) m x → r ≡ Answer.Inconsistent u → Turned p limit v c used (Reduced.Conflict m x u)
+        pub turn_lose : {m x : ℕ} → Words (set c v none) m x → r ≡ Answer.Inconsistent u → Turned p limit v c used (Ok (record { mask = m; values = x; trials = u }))
         turn_lose rest q =
             let x = value_of (get_or c v none) e in
             (set c v none, record { words = rest; valid = rest-valid }, λ n. reduce_lose p limit n v c used x.0 x.1 u (was_inconsistent _ _ _ u r (as_ended ended) q).0)
 
-        pub turn-stop : r ≡ Answer.Spent u → Turned p limit v c used (Reduced.Spent u)
+        pub turn-stop : r ≡ Answer.Spent u → Turned p limit v c used (Err (record { trials = u }))
         turn-stop q =
             let x = value_of (get_or c v none) e in
             λ n. reduce-stop p limit n v c used x.0 x.1 u (was_spent _ _ _ u r (as_ended ended) q).0
@@ -81,20 +83,20 @@ module _ {p : Plant} {limit d : ℕ} {a : Assignment} {used : ℕ} where
   unfolding reduce
   going-first w valid l = record { now = a; held = record { words = w; valid = valid }; whole = let e : length a ≡ d - 0 = omega arith in ap (λ (n : ℕ). reduce_from p limit n 0 a used) e }
 
-  module _ {mask values u v : ℕ} (g : Going p limit d a used mask values u v) (l : v < d) (r : Reduced) (turned : Turned p limit v g.now u r) where
+  module _ {mask values u v : ℕ} (g : Going p limit d a used mask values u v) (l : v < d) (r : Result Reduction Spent) (turned : Turned p limit v g.now u r) where
     one_fewer : d - v ≡ suc (d - (v + 1))
     one_fewer = omega arith
 
-    pub going_next : {m x s : ℕ} → r ≡ Reduced.Conflict m x s → Going p limit d a used m x s (v + 1)
-    going_next {m} {x} {s} e =
-        let h : Turned p limit v g.now u (Reduced.Conflict m x s) = rw e at turned in
+    pub going_next : {n : Reduction} → r ≡ Ok n → Going p limit d a used n.mask n.values n.trials (v + 1)
+    going_next {n} e =
+        let h : Turned p limit v g.now u (Ok n) = rw e at turned in
         record { now = h.0; held = h.1; whole = g.whole ∙ rw one_fewer (h.2 (d - (v + 1))) }
 
-    pub going-stop : {s : ℕ} → r ≡ Reduced.Spent s → reduce p limit a used ≡ spent s
+    pub going-stop : {s : Spent} → r ≡ Err s → reduce p limit a used ≡ spent s.trials
     going-stop {s} e =
-        let h : Turned p limit v g.now u (Reduced.Spent s) = rw e at turned in
+        let h : Turned p limit v g.now u (Err s) = rw e at turned in
         g.whole ∙ rw one_fewer (h (d - (v + 1)))
 
-  pub going_end : {mask values u v : ℕ} → Going p limit d a used mask values u v → d ≤ v → Reduces p (reduce p limit a used) (Reduced.Conflict mask values u)
+  pub going_end : {mask values u v : ℕ} → Going p limit d a used mask values u v → d ≤ v → Reduces p (reduce p limit a used) (Ok (record { mask = mask; values = values; trials = u }))
   unfolding reduce_from
   going_end {v = v} g l = let e : d - v ≡ 0 = omega arith in (g.now, g.held, rw e at g.whole)

@@ -2,97 +2,75 @@
 ghost use Rattle.std.specs.Prelude.{◌≡◌, ◌<◌, length};
 ghost use Rattle.model.specs.Conflict.{reduce};
 ghost use Rattle.plan.specs.Plans.{plan_words};
-ghost use Rattle.conflict.specs.Given.{Ready, ForWords};
+ghost use Rattle.conflict.specs.Given.{ReadyFor, ForWordsOf};
 ghost use Rattle.conflict.specs.Reduced.{Turned, Reduces};
 
 use super::tests::tested;
-use clauses::sets::Sat;
+use clauses::tables::Decoded;
 use plan::Plan;
 use trials::Answer;
 
-// How a reduction ends, with the trials made so far: the conflict's two words, or 'spent'.
+// What a reduction comes to: the conflict's two words, and the trials made so far.
 #[derive(Clone, Copy)]
-pub enum Reduced {
-    Conflict(u64, u64, u32),
-    Spent(u32),
+pub struct Reduction {
+    pub mask: u64,
+    pub values: u64,
+    pub trials: u32,
+}
+
+// The limit struck: a reduction is given up after so many trials.
+#[derive(Clone, Copy)]
+pub struct Spent {
+    pub trials: u32,
 }
 
 // One turn: tests the rest without the variable v, if it is a member, and leaves v out where the rest is inconsistent.
 fn without(
-    d: usize,
-    sizes: &[u8],
-    counts: &[u8],
-    lits: &[u8],
-    sat: &Sat,
-    uses: &[u64],
+    plant: &Decoded,
     plan: &mut Plan,
-    mask: u64,
-    values: u64,
+    now: Reduction,
     v: usize,
-    used: u32,
     limit: u32,
-) -> Reduced
-    requires { Ready d sizes.now counts.now lits.now sat.now uses.now plan.old × (v < d) }
-    ensures answer { ForWords d sizes.now counts.now lits.now mask values (λ p c. Turned p limit v c used result) }
+) -> Result<Reduction, Spent>
+    requires { ReadyFor plant.now plan.old × (v < plant.now.decisions) }
+    ensures answer { ForWordsOf plant.now now.mask now.values (λ p c. Turned p limit v c now.trials result) }
     ensures long { length plan.new ≡ plan_words }
 {
-    if !words::is_assigned(mask, v) {
-        return Reduced::Conflict(mask, values, used);
+    if !words::is_assigned(now.mask, v) {
+        return Ok(now);
     }
-    let rest = words::remove(mask, values, v);
-    match tested(
-        d,
-        sizes,
-        counts,
-        lits,
-        sat,
-        uses,
-        plan,
-        rest.mask,
-        rest.values,
-        used,
-        limit,
-    ) {
-        Answer::Consistent(t) => Reduced::Conflict(mask, values, t),
-        Answer::Inconsistent(t) => Reduced::Conflict(rest.mask, rest.values, t),
-        Answer::Spent(t) => Reduced::Spent(t),
+    let rest = words::remove(now.mask, now.values, v);
+    match tested(plant, plan, rest.mask, rest.values, now.trials, limit) {
+        Answer::Consistent(trials) => Ok(Reduction { trials, ..now }),
+        Answer::Inconsistent(trials) => Ok(Reduction {
+            mask: rest.mask,
+            values: rest.values,
+            trials,
+        }),
+        Answer::Spent(trials) => Err(Spent { trials }),
     }
 }
 
 // Reduces the conflict that the two words hold, which is not tested again, with `used` trials made before.
 pub fn reduce(
-    d: usize,
-    sizes: &[u8],
-    counts: &[u8],
-    lits: &[u8],
-    sat: &Sat,
-    uses: &[u64],
+    plant: &Decoded,
     plan: &mut Plan,
     mask: u64,
     values: u64,
     used: u32,
     limit: u32,
-) -> Reduced
-    requires { Ready d sizes.now counts.now lits.now sat.now uses.now plan.old }
-    ensures answer { ForWords d sizes.now counts.now lits.now mask values (λ p a. Reduces p (reduce p limit a used) result) }
+) -> Result<Reduction, Spent>
+    requires { ReadyFor plant.now plan.old }
+    ensures answer { ForWordsOf plant.now mask values (λ p a. Reduces p (reduce p limit a used) result) }
     ensures long { length plan.new ≡ plan_words }
 {
-    let mut m = mask;
-    let mut x = values;
-    let mut u = used;
-    let mut v = 0;
-    while v < d {
-        match without(d, sizes, counts, lits, sat, uses, plan, m, x, v, u, limit) {
-            Reduced::Spent(t) => {
-                return Reduced::Spent(t);
-            }
-            Reduced::Conflict(left, held, t) => {
-                m = left;
-                x = held;
-                u = t;
-            }
-        }
-        v += 1;
+    let mut now = Reduction {
+        mask,
+        values,
+        trials: used,
+    };
+    for v in 0..plant.decisions {
+        now = without(plant, plan, now, v, limit)?;
     }
-    Reduced::Conflict(m, x, u)
+    Ok(now)
 }

@@ -8,11 +8,11 @@ ghost use Rattle.model.specs.Calls.{shown_by};
 ghost use Rattle.theory.specs.Words.{byte};
 ghost use Rattle.trials.specs.Answers.{answer_of};
 ghost use Rattle.plan.specs.Plans.{plan_words};
-ghost use Rattle.conflict.specs.Given.{Ready, ForWords};
+ghost use Rattle.conflict.specs.Given.{ReadyFor, ForWordsOf};
 ghost use Rattle.conflict.specs.Shown.{shown_of};
 
-use clauses::sets::Sat;
-use limits::STATE_BYTES;
+use clauses::tables::Decoded;
+use limits::{STATE_BYTES, UNASSIGNED};
 use plan::Plan;
 use trials::Answer;
 
@@ -24,7 +24,7 @@ fn byte_at(d: usize, mask: u64, values: u64, v: usize) -> u8
     if v < d {
         return words::value(mask, values, v);
     }
-    16
+    UNASSIGNED
 }
 
 // Fills the bytes of all variables from the two words: a decision variable's value, or 16 where it has none, and 16 for each state variable.
@@ -32,10 +32,8 @@ fn fill(vals: &mut [u8], d: usize, mask: u64, values: u64)
     requires { (d ≤ 16) × (d ≤ length vals.old) }
     ensures { vals.new ≡ map byte (assignment_of d mask values ++ replicate (length vals.old - d) none) }
 {
-    let mut v = 0;
-    while v < vals.len() {
-        vals[v] = byte_at(d, mask, values, v);
-        v += 1;
+    for (v, value) in vals.iter_mut().enumerate() {
+        *value = byte_at(d, mask, values, v);
     }
 }
 
@@ -59,36 +57,21 @@ fn shown_of(answer: Answer, left: [u8; STATE_BYTES]) -> [u8; STATE_BYTES]
 
 // The test of the assignment that the two words hold, with `used` trials made before, and what it shows. The plan is room for the search of a test, whatever is in it.
 pub fn test_shown(
-    d: usize,
-    sizes: &[u8],
-    counts: &[u8],
-    lits: &[u8],
-    sat: &Sat,
-    uses: &[u64],
+    plant: &Decoded,
     plan: &mut Plan,
     mask: u64,
     values: u64,
     used: u32,
     limit: u32,
 ) -> Shown
-    requires { Ready d sizes.now counts.now lits.now sat.now uses.now plan.old }
-    ensures answer { ForWords d sizes.now counts.now lits.now mask values (λ p a. (result.answer ≡ answer_of (test p limit a used)) × (result.values ≡ shown_by (test p limit a used))) }
+    requires { ReadyFor plant.now plan.old }
+    ensures answer { ForWordsOf plant.now mask values (λ p a. (result.answer ≡ answer_of (test p limit a used)) × (result.values ≡ shown_by (test p limit a used))) }
     ensures long { length plan.new ≡ plan_words }
 {
     let mut vals = [0u8; STATE_BYTES];
-    let n = sizes.len();
-    fill(&mut vals[..n], d, mask, values);
-    let answer = consistency::test(
-        sizes,
-        counts,
-        lits,
-        sat,
-        uses,
-        &mut vals[..n],
-        plan,
-        used,
-        limit,
-    );
+    let n = plant.sizes.len();
+    fill(&mut vals[..n], plant.decisions, mask, values);
+    let answer = consistency::test(plant, &mut vals[..n], plan, used, limit);
     Shown {
         answer,
         values: shown_of(answer, vals),
@@ -97,24 +80,17 @@ pub fn test_shown(
 
 // The test by itself.
 pub fn tested(
-    d: usize,
-    sizes: &[u8],
-    counts: &[u8],
-    lits: &[u8],
-    sat: &Sat,
-    uses: &[u64],
+    plant: &Decoded,
     plan: &mut Plan,
     mask: u64,
     values: u64,
     used: u32,
     limit: u32,
 ) -> Answer
-    requires { Ready d sizes.now counts.now lits.now sat.now uses.now plan.old }
-    ensures answer { ForWords d sizes.now counts.now lits.now mask values (λ p a. result ≡ answer_of (test p limit a used)) }
+    requires { ReadyFor plant.now plan.old }
+    ensures answer { ForWordsOf plant.now mask values (λ p a. result ≡ answer_of (test p limit a used)) }
     ensures long { length plan.new ≡ plan_words }
 {
-    let shown = test_shown(
-        d, sizes, counts, lits, sat, uses, plan, mask, values, used, limit,
-    );
+    let shown = test_shown(plant, plan, mask, values, used, limit);
     shown.answer
 }

@@ -29,7 +29,7 @@ use Rattle.plan.specs.Plans.{plan_words, in_plan, Planned, PlanFor, Searchable, 
 use Rattle.plan.proofs.Pairs.{pair-join}
 use Rattle.consistency.specs.Given.{Given}
 
-module _ (sizes counts lits sat uses vals : List ℕ) (g : Given sizes counts lits sat uses vals) where
+module _ {sizes counts lits sat uses vals : List ℕ} (g : Given sizes counts lits sat uses vals) where
   -- the first question is asked of the same tables
   pub tables-vals : Tables (length vals) counts lits
   tables-vals = rw g.same g.tables
@@ -83,9 +83,9 @@ module _ (sizes counts lits sat uses vals : List ℕ) (g : Given sizes counts li
   -- ---- on sets of two words
 
   -- a clause that is satisfied or left open is not false
-  pub settled-clear : (plan : List ℕ) (first held1 held2 open1 open2 : ℕ) → Planned sizes vals sat uses plan first (in_pair held1 held2) (in_pair open1 open2) 0
+  pub settled-clear : {plan : List ℕ} {first : ℕ} (held1 held2 open1 open2 : ℕ) → Planned sizes vals sat uses plan first (in_pair held1 held2) (in_pair open1 open2) 0
       → (c : ℕ) → in_pair (bit_or held1 open1) (bit_or held2 open2) c ≡ true → clause_false (map given vals) (nth (clauses counts lits) c) ≡ false
-  settled-clear plan first held1 held2 open1 open2 p c e = elim (dec_lt c pair_clauses) [
+  settled-clear {plan} held1 held2 open1 open2 p c e = elim (dec_lt c pair_clauses) [
     | yes l ↦
         let cs = clauses counts lits in
         let s = p.sets cs record { below = tables-vals.below; ready = g.ready } in
@@ -95,7 +95,7 @@ module _ (sizes counts lits sat uses vals : List ℕ) (g : Given sizes counts li
     | no l ↦ absurd (true≢false (sym e ∙ pair-past (bit_or held1 open1) (bit_or held2 open2) c (omega arith)))
   ]
 
-  module _ (few : length counts ≤ pair_clauses) (plan : List ℕ) (first : ℕ) (inHeld : ℕ → Bool) (open1 open2 : ℕ) (p : Planned sizes vals sat uses plan first inHeld (in_pair open1 open2) 0) where
+  module _ (few : length counts ≤ pair_clauses) {plan : List ℕ} {first : ℕ} {inHeld inOpen : ℕ → Bool} (p : Planned sizes vals sat uses plan first inHeld inOpen 0) where
     -- the plan was made for what the test is given, and the search stands at the first unassigned variable
     pub plan_first : PlanFor sizes vals plan first
     plan_first = record {
@@ -112,5 +112,5 @@ module _ (sizes counts lits sat uses vals : List ℕ) (g : Given sizes counts li
     pub planned-searched : Knows sizes sat plan (clauses counts lits) → (limit used : ℕ) → any_false (map given vals) (clauses counts lits) ≡ false → (after : List ℕ) (r : Answer)
         → Searches pair_clauses (Knows sizes sat plan) sizes (in_set sat) (in_plan plan) vals inHeld first used limit after r → Ended (test_over (clauses counts lits) sizes limit used (map given vals)) vals after r
     planned-searched k limit used e after r deep = searched limit used pair_clauses few (omega arith) e (in_plan plan) inHeld after r k
-        (λ cs k. from_end pair_clauses vals cs (in_plan plan) inHeld (in_pair open1 open2) (p.sets cs k))
+        (λ cs k. from_end pair_clauses vals cs (in_plan plan) inHeld inOpen (p.sets cs k))
         (passed_over pair_clauses _ sizes (in_set sat) (in_plan plan) vals 0 first bytes-first p.next inHeld used limit after r deep)

@@ -5,31 +5,33 @@ use mathlib.Core.Option.{none, some}
 use mathlib.Core.List.{List, [], ◌∷◌}
 use Prim.Native.Nat.{ℕ, ◌+◌, ◌*◌, ◌/◌, ◌≤◌}
 use native.Mathlib.Omega.{arith}
-use lib.ListN.{length, take, length-map}
+use lib.ListN.{length, length-map}
 use borrow.Author.Tests.{ltb-false}
+use Rattle.std.proofs.Common.{Option, Some, None, Result, Ok, Err}
 use Rattle.model.specs.Lists.{All}
 use Rattle.model.specs.Sheet.{Plant, decision_sizes}
 use Rattle.model.specs.Assignment.{Assignment, Valid, is_full}
 use Rattle.model.specs.Conflict.{Conflict, resolves}
 use Rattle.model.specs.Listing.{State, first_unresolved, resolving, branching, leave_off, put_children, judge, expand}
-use Rattle.theory.specs.Plant.{Sized}
-use Rattle.theory.specs.Words.{Words, Wide, wide_of}
+use Rattle.theory.specs.Words.{Words, Wide}
 use Rattle.theory.specs.Tables.{Tabled}
 use Rattle.theory.proofs.Agreement.{valid_length}
 use Rattle.theory.proofs.Learned.{stored-conflicts}
 use Rattle.theory.proofs.Tables.{tabled-count, tabled-few, tabled-decisions, tabled-sized}
 use Rattle.store.specs.Store.{Keeps, Tells}
-use Rattle.store.specs.declared.Unresolved.{Unresolved}
+use Rattle.words.specs.declared.Pair.{Pair}
 use Rattle.store.proofs.Callers.{keeps-room}
 use Rattle.children.specs.declared.Node.{Node}
-use Rattle.children.specs.declared.Put.{Put}
-use Rattle.children.specs.Children.{NodeIs, Step, PutOf, Puts}
+use Rattle.children.specs.declared.Full.{Full}
+use Rattle.children.specs.declared.Choices.{Choices}
+use Rattle.children.specs.Children.{Choosable, Tables as Choosing, NodeIs, Step, PutOf, Puts}
 use Rattle.children.proofs.Numbers.{words_are}
-use Rattle.conflict.specs.Given.{Ready}
+use Rattle.children.proofs.Callers.{tables_of_lem}
+use Rattle.conflict.specs.Given.{ReadyFor}
 use Rattle.conflict.proofs.Given.{tabled-ready}
 use Rattle.judge.specs.declared.Progress.{Progress}
-use Rattle.judge.specs.declared.Next.{Next as After}
-use Rattle.judge.specs.Standing.{Question, order_in, Written, Removed, NextIs}
+use Rattle.judge.specs.Standing.{Question, order_in, Written, Removed, After, NextIs}
+use Rattle.expand.specs.declared.Query.{Query}
 use Rattle.expand.specs.Expands.{Expands, queuing, PutNext}
 
 -- the first unresolved conflict is one of the store's
@@ -79,18 +81,18 @@ module _ {weighed : Bool} {q : Question weighed} {limit : ℕ} {queue store code
   parent_length = valid_length (decision_sizes q.plant) t.parent t.is.valid ∙ length-map q.plant.costs length
 
   -- the store's answer for the node's words is the model's for the node
-  module _ {wide held : ℕ} (r : Unresolved) (e : wide ≡ wide_of node.mask) (words : (w : Bool) (p : Plant) (n : Assignment) → NodeIs w p n node → Words n node.mask held)
+  module _ {wide held : ℕ} (r : Option Pair) (words : (w : Bool) (p : Plant) (n : Assignment) → NodeIs w p n node → Wide n wide held)
       (answer : (d : ℕ) (conflicts : List Assignment) (n : Assignment) → Keeps d store g.stored conflicts → Wide n wide held → length n ≡ d → Tells r (first_unresolved conflicts n)) where
     told : Tells r (first_unresolved t.state.store t.parent)
     told = answer (length q.plant.costs) t.state.store t.parent t.turn.standing.written.keeps
-        (record { mask = node.mask; words = words weighed q.plant t.parent t.is; wide_is = e }) parent_length
+        (words weighed q.plant t.parent t.is) parent_length
 
     -- that conflict, by its words
-    pub found-one : {mask others : ℕ} → r ≡ Unresolved.At mask others → (c : Assignment) × (first_unresolved t.state.store t.parent ≡ some c) × Words c mask others
+    pub found-one : {found : Pair} → r ≡ Some found → (c : Assignment) × (first_unresolved t.state.store t.parent ≡ some c) × Words c found.mask found.values
     found-one f = rw f at told
 
     -- or none
-    pub found_none : r ≡ Unresolved.Nothing → first_unresolved t.state.store t.parent ≡ none
+    pub found_none : r ≡ None → first_unresolved t.state.store t.parent ≡ none
     found_none f = rw f at told
 
   -- whether the node's words are those of a full assignment
@@ -106,11 +108,11 @@ module _ {weighed : Bool} {q : Question weighed} {limit : ℕ} {queue store code
 
   module _ (after : List ℕ) (same : length after ≡ length queue) where
     -- step 6
-    put_is : (children : List Assignment) (r : Put) (n : After) → Puts removed-step children after r → PutNext g r n
+    put_is : (children : List Assignment) (r : Result ℕ Full) (n : After) → Puts removed-step children after r → PutNext g r n
         → NextIs q after store codes values n (put_children q.plant (order_in q) q.wanted (length queue / 2) (length store / 2) limit t.state t.rest children)
     unfolding PutOf put_children
-    put_is children Put.Full n h e = rw (e, put_children, h) (refl, t.turn.standing.written)
-    put_is children (Put.Entries m) n h e =
+    put_is children (Err full) n h e = rw (e, put_children, h) (refl, t.turn.standing.written)
+    put_is children (Ok m) n h e =
         let others = leave_off t.state.store children in
         let w = t.turn.standing.written in
         rw (e, put_children, h.0) (record {
@@ -120,14 +122,14 @@ module _ {weighed : Bool} {q : Question weighed} {limit : ℕ} {queue store code
         })
 
     -- step 4
-    pub resolved_is : (c : Assignment) (r : Put) (n : After) → first_unresolved t.state.store t.parent ≡ some c
+    pub resolved_is : (c : Assignment) (r : Result ℕ Full) (n : After) → first_unresolved t.state.store t.parent ≡ some c
         → Puts removed-step (resolving (decision_sizes q.plant) t.parent c) after r → PutNext g r n
         → NextIs q after store codes values n (expand q.plant (order_in q) q.wanted (length queue / 2) (length store / 2) limit t.state t.rest t.parent)
     unfolding expand
     resolved_is c r n f h e = rw (expand, f) (put_is (resolving (decision_sizes q.plant) t.parent c) r n h e)
 
     -- step 5
-    pub branched_is : (r : Put) (n : After) → first_unresolved t.state.store t.parent ≡ none → is_full t.parent ≡ false
+    pub branched_is : (r : Result ℕ Full) (n : After) → first_unresolved t.state.store t.parent ≡ none → is_full t.parent ≡ false
         → Puts removed-step (branching (decision_sizes q.plant) t.parent) after r → PutNext g r n
         → NextIs q after store codes values n (expand q.plant (order_in q) q.wanted (length queue / 2) (length store / 2) limit t.state t.rest t.parent)
     unfolding expand
@@ -141,12 +143,18 @@ module _ {weighed : Bool} {q : Question weighed} {limit : ℕ} {queue store code
   judged-is f b = rw (expand, f, b) refl
 
 -- what the functions that it calls are given
-module _ {d : ℕ} {sizes prices counts lits sat uses plan : List ℕ} {weighed : Bool} {preferred limit : ℕ} {codes values queue store : List ℕ} {g : Progress} {node : Node}
-    (t : Expands d sizes prices counts lits sat uses plan weighed preferred limit codes values queue store g node) where
-  pub children_given : (d ≤ 16) × (d ≤ length sizes) × (16 * d ≤ length prices) × All Sized (take d sizes) × (2 * g.stored ≤ length store)
+module _ {query : Query} {plan codes values queue store : List ℕ} {g : Progress} {node : Node} (t : Expands query plan codes values queue store g node) where
+  -- what children are made of
+  abbrev pub choices : Choices
+  choices = record { decisions = query.plant.decisions; sizes = query.plant.sizes; prices = query.prices; weighed = query.weighed; preferred = query.preferred }
+
+  pub choices-tables : Choosing t.question.plant choices
+  choices-tables = tables_of_lem t.tables.tabled t.tables.preferred-is
+
+  pub children_given : Choosable choices × (2 * g.stored ≤ length store)
   children_given =
       let tabled = t.tables.tabled in
-      (tabled-few tabled, tabled.decisions, tabled.cost-room, rw (tabled-decisions tabled) at (tabled-sized tabled), removed-room t.taken)
+      (record { few = tabled-few tabled; sizes-long = tabled.decisions; prices-long = tabled.cost-room; sized = rw (tabled-decisions tabled) at (tabled-sized tabled) }, removed-room t.taken)
 
-  pub judge-given : Ready d sizes counts lits sat uses plan × ((q : Question weighed) × Removed q limit queue store codes values g node)
+  pub judge-given : ReadyFor query.plant plan × ((q : Question query.weighed) × Removed q query.limit queue store codes values g node)
   judge-given = (tabled-ready t.tables.tabled t.tables.prepared t.tables.planned, (t.question, t.taken))

@@ -11,7 +11,9 @@ use Rattle.model.specs.Lists.{filled}
 use Rattle.model.specs.Conflict.{Reduced, ReducedAlone, nothing, reduced}
 use Rattle.model.specs.Calls.{Answered, refused, answered, refusal_number, entry_words, reduce_call, reduce_written, reduce_export}
 use Rattle.theory.proofs.Lists.{or_neither}
-use Rattle.conflict_call.specs.declared.ReduceAnswer.{ReduceAnswer}
+use Rattle.std.specs.Prelude.{Result, Ok, Err}
+use Rattle.refusal.specs.declared.Refusal.{Refusal as Whose}
+use Rattle.conflict_call.specs.declared.Reduction.{Reduction}
 use Rattle.conflict_call.specs.Calls.{on_answer, Worded, worded, reduce_of, ReduceRight}
 use Rattle.conflict_call.proofs.Asking.{reduce-refusal}
 use Rattle.export.specs.Exports.{ReduceTells}
@@ -47,22 +49,22 @@ module _ (sheet : List ℕ) (mask values limit : ℕ) (conflict result : List �
     long = rw (reduce_export, h, ← by-words conflict result (reduce_call sheet mask values limit))
 
     -- what is returned and written for the answer q, and that it is the truth
-    tells : (q : ReduceAnswer) → reduce_of q ≡ on_answer worded (reduce_call sheet mask values limit) → ReduceRight sheet mask values q
+    tells : (q : Result Reduction Whose) → reduce_of q ≡ on_answer worded (reduce_call sheet mask values limit) → ReduceRight sheet mask values q
         → ReduceTells sheet mask values (written conflict result (reduce_of q)).0 (written conflict result (reduce_of q)).1 (written conflict result (reduce_of q)).2
-    tells (ReduceAnswer.Refused r) e right = record {
+    tells (Err r) e right = record {
       consistent = λ z _ p end h. absurd (reduce-refusal sheet mask values limit r e p end h z);
       inconsistent = λ z _ p end h. absurd (reduce-refusal sheet mask values limit r e p end h z);
       minimal = λ z _ p end h. absurd (reduce-refusal sheet mask values limit r e p end h z);
     }
-    tells (ReduceAnswer.None t) e right = record { consistent = λ _ _. right; inconsistent = λ _ w. absurd (omega (arith, w)); minimal = λ _ w. absurd (omega (arith, w)) }
-    tells (ReduceAnswer.Conflict m x t) e right = record {
+    tells (Ok (Reduction.None t)) e right = record { consistent = λ _ _. right; inconsistent = λ _ w. absurd (omega (arith, w)); minimal = λ _ w. absurd (omega (arith, w)) }
+    tells (Ok (Reduction.Conflict m x t)) e right = record {
       consistent = λ _ w. absurd (omega (arith, w));
       inconsistent = λ _ _ p end h. (right p end h).0;
       minimal = λ _ _ p end h. (right p end h).1;
     }
-    tells (ReduceAnswer.Spent t) e right = record { consistent = λ _ w. absurd (omega (arith, w)); inconsistent = λ _ w. absurd (omega (arith, w)); minimal = λ _ w. absurd (omega (arith, w)) }
+    tells (Ok (Reduction.Spent t)) e right = record { consistent = λ _ w. absurd (omega (arith, w)); inconsistent = λ _ w. absurd (omega (arith, w)); minimal = λ _ w. absurd (omega (arith, w)) }
 
-    pub reduce-exported : (r : ReduceAnswer) → reduce_of r ≡ on_answer worded (reduce_call sheet mask values limit) → ReduceRight sheet mask values r → (q : ReduceAnswer) → r ≡ q
+    pub reduce-exported : (r : Result Reduction Whose) → reduce_of r ≡ on_answer worded (reduce_call sheet mask values limit) → ReduceRight sheet mask values r → (q : Result Reduction Whose) → r ≡ q
         → {n : ℕ} {found after : List ℕ} → n ≡ (written conflict result (reduce_of q)).0 → found ≡ (written conflict result (reduce_of q)).1 → after ≡ (written conflict result (reduce_of q)).2
         → (reduce_export sheet mask values limit conflict result ≡ (n, found, after)) × ReduceTells sheet mask values n found after
     reduce-exported r e right q f {n} {found} {after} g i k =

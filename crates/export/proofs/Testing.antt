@@ -8,7 +8,9 @@ use lib.ListN.{length, set}
 use Rattle.model.specs.Lists.{filled}
 use Rattle.model.specs.Consistency.{Tested, consistent, inconsistent}
 use Rattle.model.specs.Calls.{refusal_number, Answered, refused, answered, test_call, test_words, test_written, test_export}
-use Rattle.conflict_call.specs.declared.TestAnswer.{TestAnswer}
+use Rattle.std.specs.Prelude.{Result, Ok, Err}
+use Rattle.trials.specs.declared.Answer.{Answer as Ended}
+use Rattle.refusal.specs.declared.Refusal.{Refusal as Whose}
 use Rattle.conflict_call.specs.declared.TestShown.{TestShown}
 use Rattle.conflict_call.specs.Calls.{on_answer, without_values, shown_in, test_of, TestRight}
 use Rattle.conflict_call.proofs.Asking.{test-refusal}
@@ -42,21 +44,21 @@ module _ (sheet : List ℕ) (mask values limit : ℕ) (shown result : List ℕ) 
 
   -- what is returned and written for the answer q, and that it is the truth
   module _ (bytes : List ℕ) where
-    abbrev left : TestAnswer → ℕ × List ℕ × List ℕ
+    abbrev left : Result Ended Whose → ℕ × List ℕ × List ℕ
     left q = written bytes shown result (test_of q)
 
-    tells : (q : TestAnswer) → test_of q ≡ on_answer without_values (test_call sheet mask values limit) → TestRight sheet mask values (record { answer = q; values = bytes })
+    tells : (q : Result Ended Whose) → test_of q ≡ on_answer without_values (test_call sheet mask values limit) → TestRight sheet mask values (record { answer = q; values = bytes })
         → TestTells sheet mask values (left q).0 (left q).1 (left q).2
-    tells (TestAnswer.Refused r) e right = record {
+    tells (Err r) e right = record {
       consistent = λ z _ p end h. absurd (test-refusal sheet mask values limit r e p end h z);
       inconsistent = λ z _ p end h. absurd (test-refusal sheet mask values limit r e p end h z);
     }
-    tells (TestAnswer.Consistent t) e right = record { consistent = λ _ _. right; inconsistent = λ _ w. absurd (omega (arith, w)) }
-    tells (TestAnswer.Inconsistent t) e right = record { consistent = λ _ w. absurd (omega (arith, w)); inconsistent = λ _ _. right }
-    tells (TestAnswer.Spent t) e right = record { consistent = λ _ w. absurd (omega (arith, w)); inconsistent = λ _ w. absurd (omega (arith, w)) }
+    tells (Ok (Ended.Consistent t)) e right = record { consistent = λ _ _. right; inconsistent = λ _ w. absurd (omega (arith, w)) }
+    tells (Ok (Ended.Inconsistent t)) e right = record { consistent = λ _ w. absurd (omega (arith, w)); inconsistent = λ _ _. right }
+    tells (Ok (Ended.Spent t)) e right = record { consistent = λ _ w. absurd (omega (arith, w)); inconsistent = λ _ w. absurd (omega (arith, w)) }
 
   pub test-exported : 2 ≤ length result → (r : TestShown) → test_of r.answer ≡ on_answer without_values (test_call sheet mask values limit) → r.values ≡ shown_in (test_call sheet mask values limit)
-      → TestRight sheet mask values r → (q : TestAnswer) → r.answer ≡ q
+      → TestRight sheet mask values r → (q : Result Ended Whose) → r.answer ≡ q
       → {n : ℕ} {shown' result' : List ℕ} → n ≡ (left r.values q).0 → shown' ≡ (left r.values q).1 → result' ≡ (left r.values q).2
       → (test_export sheet mask values limit shown result ≡ (n, shown', result')) × TestTells sheet mask values n shown' result'
   test-exported h r e b right q f {n} {shown'} {result'} g k l =

@@ -2,28 +2,28 @@
 // words were written. `leading_c` has them for C, with those of `export_weights` and `export_tables`.
 #![tactic(auto)]
 
-ghost use Rattle.std.specs.Prelude.{◌≡◌, [], ◌∷◌, ◌≤◌, length};
+ghost use Rattle.std.specs.Prelude.{◌≡◌, [], ◌∷◌, ◌≤◌, length, Ok};
 ghost use Rattle.model.specs.Lists.{filled};
-ghost use Rattle.model.specs.Calls.{Buffers, ending_number, result_words, export_call, test_export, reduce_export};
+ghost use Rattle.model.specs.Calls.{Buffers, ending_number, result_words, test_words, exported_of, export_call, test_export, reduce_export};
 ghost use Rattle.judge.specs.Standing.{ending_of};
-ghost use Rattle.listing.specs.Listing.{buffers, counts_of};
+ghost use Rattle.listing.specs.Listing.{buffers, counts_of, answer_of};
+ghost use Rattle.conflict_call.specs.Calls.{tested_of};
+ghost use Rattle.listing.specs.declared.Ran.{Ran};
 ghost use Rattle.export.specs.Exports.{version, exported, ExportPromises, TestTells, ReduceTells};
 
-use conflict_call::{ReduceAnswer, TestAnswer, reduce_call, test_call};
+use conflict_call::{Reduction, reduce_call, test_call};
 use judge::Ending;
 use limits::STATE_BYTES;
-use listing::{Answer, Counts};
+use listing::Ran;
 use listing_call::list_with;
-use text::put_bytes;
+use refusal::{HostGround, Refusal};
+use trials::Answer;
 
 // Result words of a listing.
 pub const LISTING_WORDS: usize = 6;
 
 // Result words of a test or a reduction, and words of a conflict.
 const TEST_WORDS: usize = 2;
-
-// The refusal of a buffer that is too short.
-const SHORT: u32 = 2;
 
 // MAJOR, MINOR and PATCH of the header, a byte each from the third on.
 const VERSION: u32 = 66048;
@@ -48,16 +48,30 @@ fn ending_number(e: Ending) -> u32
 }
 
 // Writes the six result words of a run.
-pub fn write(res: &mut [u32], e: Ending, c: Counts)
+fn write(res: &mut [u32], ran: Ran)
     requires { 6 ≤ length res.old }
-    ensures { res.new ≡ filled (result_words (ending_of e) (counts_of c)) res.old }
+    ensures { res.new ≡ filled (result_words (ending_of ran.ending) (counts_of ran.counts)) res.old }
 {
-    res[0] = ending_number(e);
-    res[1] = c.listed;
-    res[2] = c.tested;
-    res[3] = c.learned;
-    res[4] = c.unkept;
-    res[5] = c.trials;
+    res[0] = ending_number(ran.ending);
+    res[1] = ran.counts.listed;
+    res[2] = ran.counts.tested;
+    res[3] = ran.counts.learned;
+    res[4] = ran.counts.unkept;
+    res[5] = ran.counts.trials;
+}
+
+// Tells what a listing call answered, of either edition: a refusal by its number, a run by 0 and the result words.
+pub fn tell(res: &mut [u32], answer: Result<Ran, Refusal>) -> u32
+    requires { (ran : Ran) → answer ≡ Ok ran → 6 ≤ length res.old }
+    ensures { (after : Buffers) → exported_of res.old after (answer_of answer) ≡ exported result after res.new }
+{
+    match answer {
+        Err(refusal) => refusal.number(),
+        Ok(ran) => {
+            write(res, ran);
+            0
+        }
+    }
 }
 
 // The listing call: the result words are ending, listed, tested, learned, unkept and trials.
@@ -78,24 +92,11 @@ pub fn leading_list(
         (export_call sheet.now k before held limit res.old ≡ exported result after res.new)
         × ExportPromises sheet.now k before held limit res.old result after res.new) }
 {
-    match list_with(
-        sheet,
-        k,
-        codes,
-        costs,
-        values,
-        queue,
-        store,
-        held,
-        limit,
-        res.len() < LISTING_WORDS,
-    ) {
-        Answer::Refused(r) => refusal::number(r),
-        Answer::Ran(e, c) => {
-            write(res, e, c);
-            0
-        }
-    }
+    let short = res.len() < LISTING_WORDS;
+    let answer = list_with(
+        sheet, k, codes, costs, values, queue, store, held, limit, short,
+    );
+    tell(res, answer)
 }
 
 // Writes an answer's number and its trials to the first two result words.
@@ -113,14 +114,17 @@ fn tested(
     shown: &mut [u8; STATE_BYTES],
     found: &[u8; STATE_BYTES],
     res: &mut [u32],
-    answer: u32,
-    trials: u32,
+    answer: Answer,
 ) -> u32
     requires { 2 ≤ length res.old }
-    ensures { (result ≡ 0) × (shown.new ≡ found.now) × (res.new ≡ filled (answer ∷ trials ∷ []) res.old) }
+    ensures { (result ≡ 0) × (shown.new ≡ found.now) × (res.new ≡ filled (test_words (tested_of answer)) res.old) }
 {
-    put_bytes(shown, 0, found);
-    written(res, answer, trials)
+    *shown = *found;
+    match answer {
+        Answer::Consistent(t) => written(res, 1, t),
+        Answer::Inconsistent(t) => written(res, 2, t),
+        Answer::Spent(t) => written(res, 3, t),
+    }
 }
 
 // The test call: the result words are the answer (1 consistent, 2 inconsistent, 3 spent) and its trials; `shown` takes the
@@ -137,16 +141,13 @@ pub fn leading_test(
     ensures right { TestTells sheet.now mask values result shown.new res.new }
 {
     if res.len() < TEST_WORDS {
-        return SHORT;
+        return HostGround::BadOutput.number();
     }
     let test = test_call(sheet, mask, values, limit);
-    let answer = test.answer;
     let found = test.values;
-    match answer {
-        TestAnswer::Refused(r) => refusal::number(r),
-        TestAnswer::Consistent(t) => tested(shown, &found, res, 1, t),
-        TestAnswer::Inconsistent(t) => tested(shown, &found, res, 2, t),
-        TestAnswer::Spent(t) => tested(shown, &found, res, 3, t),
+    match test.answer {
+        Err(refusal) => refusal.number(),
+        Ok(answer) => tested(shown, &found, res, answer),
     }
 }
 
@@ -173,13 +174,13 @@ pub fn leading_reduce(
     ensures right { ReduceTells sheet.now mask values result conflict.new res.new }
 {
     if (conflict.len() < TEST_WORDS) | (res.len() < TEST_WORDS) {
-        return SHORT;
+        return HostGround::BadOutput.number();
     }
     match reduce_call(sheet, mask, values, limit) {
-        ReduceAnswer::Refused(r) => refusal::number(r),
-        ReduceAnswer::None(t) => written(res, 1, t),
-        ReduceAnswer::Spent(t) => written(res, 3, t),
-        ReduceAnswer::Conflict(m, x, t) => {
+        Err(refusal) => refusal.number(),
+        Ok(Reduction::None(t)) => written(res, 1, t),
+        Ok(Reduction::Spent(t)) => written(res, 3, t),
+        Ok(Reduction::Conflict(m, x, t)) => {
             put(conflict, m, x);
             written(res, 2, t)
         }

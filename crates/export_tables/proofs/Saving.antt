@@ -14,9 +14,8 @@ use Rattle.theory.specs.Refusals.{TableNumber}
 use Rattle.theory.specs.WriteRead.{WritePromises, ReadPromises}
 use Rattle.theory.proofs.Refusals.{author_number1, table-refusal}
 use Rattle.refusal.specs.declared.Refusal.{Refusal as Whose}
-use Rattle.refusal.specs.declared.Written.{Written}
 use Rattle.refusal.specs.Refusal.{refusal_of, written_of}
-use Rattle.read_call.specs.declared.Opened.{Opened}
+use Rattle.std.specs.Prelude.{Result, Ok, Err}
 use Rattle.read_call.specs.Lent.{Answers}
 use Rattle.export_tables.specs.Exports.{WriteTells, ReadTells}
 
@@ -38,7 +37,7 @@ module _ (t : Tables) (buffer : List ℕ) (word : ℕ) (after : List ℕ) where
   write-tells (answered n) e h = record { written = λ z. h }
 
   -- what the writing call answered, as the export tells it
-  pub write-exported : (r q : Written) → r ≡ q → write_call t buffer ≡ record { answer = written_of r; after = after } → WritePromises t (written_of r) after
+  pub write-exported : (r q : Result ℕ Whose) → r ≡ q → write_call t buffer ≡ record { answer = written_of r; after = after } → WritePromises t (written_of r) after
       → {n w : ℕ} → n ≡ returned_by (written_of q) → w ≡ written_word word (written_of q) → (write_export t buffer word ≡ (n, after, w)) × WriteTells t n after w
   unfolding write_export
   write-exported r q f e h {n} {w} g k =
@@ -70,8 +69,8 @@ module _ (sheet : List ℕ) (lent after : Tables) where
   read-exported n g k h = (rw (read_export, g, k), rw g (read-tells (read_tables sheet) refl h))
 
 -- the number that is returned for an answer
-pub refused_returns : (sheet : List ℕ) (q : Opened) → Answers q (read_tables sheet) → {r : Whose} → q ≡ Opened.Refused r → refusal_number (refusal_of r) ≡ returned_by (read_tables sheet)
+pub refused_returns : (sheet : List ℕ) (q : Result (Unit {0}) Whose) → Answers q (read_tables sheet) → {r : Whose} → q ≡ Err r → refusal_number (refusal_of r) ≡ returned_by (read_tables sheet)
 refused_returns sheet q h {r} f = let h : read_tables sheet ≡ refused (refusal_of r) = rw f at h in rw h
 
-pub tables_returns : (sheet : List ℕ) (q : Opened) → Answers q (read_tables sheet) → q ≡ Opened.Tables → 0 ≡ returned_by (read_tables sheet)
+pub tables_returns : (sheet : List ℕ) (q : Result (Unit {0}) Whose) → Answers q (read_tables sheet) → {u : Unit {0}} → q ≡ Ok u → 0 ≡ returned_by (read_tables sheet)
 tables_returns sheet q h f = let h : (t : Tables) × (read_tables sheet ≡ answered t) = rw f at h in rw h.1

@@ -9,9 +9,9 @@ ghost use Rattle.theory.specs.Tables.{tables_given};
 ghost use Rattle.read_call.specs.Lent.{tables_lent};
 ghost use Rattle.export_tables.specs.Exports.{WriteTells, ReadTells};
 
-use read_call::{Opened, read_call};
+use read_call::read_call;
 use readings::{COST_ENTRIES, COUNT_ENTRIES, LITERAL_BYTES, NUMBERS, SIZE_ENTRIES};
-use refusal::Written;
+use table_rules::Tables;
 use write_call::write_call;
 
 // Writes the number of bytes to its word.
@@ -38,11 +38,18 @@ pub fn leading_write(
     ensures equation { write_export (tables_given decisions states clauses sizes.now costs.now counts.now literals.now) sheet.old (get_or bytes.old 0 0) ≡ (result, sheet.new, get_or bytes.new 0 0) }
     ensures right { WriteTells (tables_given decisions states clauses sizes.now costs.now counts.now literals.now) result sheet.new (get_or bytes.new 0 0) }
 {
-    match write_call(
-        sizes, costs, counts, literals, sheet, decisions, states, clauses,
-    ) {
-        Written::Refused(r) => refusal::number(r),
-        Written::Bytes(n) => told(bytes, n),
+    let tables = Tables {
+        decisions,
+        states,
+        clauses,
+        sizes,
+        costs,
+        counts,
+        lits: literals,
+    };
+    match write_call(&tables, sheet) {
+        Err(refusal) => refusal.number(),
+        Ok(n) => told(bytes, n),
     }
 }
 
@@ -60,7 +67,7 @@ pub fn leading_read(
     ensures right { ReadTells sheet.now result (tables_lent sizes.new costs.new counts.new literals.new numbers.new) }
 {
     match read_call(sheet, sizes, costs, counts, literals, numbers) {
-        Opened::Refused(r) => refusal::number(r),
-        Opened::Tables => 0,
+        Err(refused) => refused.number(),
+        Ok(()) => 0,
     }
 }

@@ -8,8 +8,7 @@ ghost use Rattle.model.specs.Calls.{Buffers, weights_export};
 ghost use Rattle.listing.specs.Listing.{buffers};
 ghost use Rattle.export.specs.Exports.{exported, ExportKeeps};
 
-use export::{LISTING_WORDS, write};
-use listing::Answer;
+use export::{LISTING_WORDS, tell};
 use weights_call::list_weights_with;
 
 // The listing call: the result words are ending, listed, tested, learned, unkept and trials.
@@ -30,22 +29,9 @@ pub fn leading_list_weights(
         (weights_export sheet.now k before held limit res.old ≡ exported result after res.new)
         × ExportKeeps edition2 sheet.now k before held limit res.old result after res.new) }
 {
-    match list_weights_with(
-        sheet,
-        k,
-        codes,
-        products,
-        values,
-        queue,
-        store,
-        held,
-        limit,
-        res.len() < LISTING_WORDS,
-    ) {
-        Answer::Refused(r) => refusal::number(r),
-        Answer::Ran(e, c) => {
-            write(res, e, c);
-            0
-        }
-    }
+    let short = res.len() < LISTING_WORDS;
+    let answer = list_weights_with(
+        sheet, k, codes, products, values, queue, store, held, limit, short,
+    );
+    tell(res, answer)
 }

@@ -1,5 +1,5 @@
--- Products that a word holds, a product one variable further, and a list of figures one place further. Assumes nothing.
-use Rattle.std.proofs.Common.{◌≡◌, ℕ, ◌+◌, ◌*◌, ◌^◌, ◌<◌, ◌≤◌, true, List, [], ◌∷◌, ◌++◌, map, length, get_or, take, set, sym, ◌∙◌, mul_assoc, mul-le-mul, pow-suc, mul-one, add-one, arith, length-take-le, take-suc}
+-- Bounds of products, a product one variable further, and a list of figures one place further. Assumes nothing.
+use Rattle.std.proofs.Common.{◌≡◌, ℕ, ◌+◌, ◌*◌, ◌^◌, ◌<◌, ◌≤◌, true, List, [], ◌∷◌, ◌++◌, map, length, get_or, take, set, ◌∙◌, mul_assoc, mul-le-mul, pow-suc, add-one, arith, length-take-le, take-suc}
 use mathlib.Core.List.{map-append}
 use native.Mathlib.Nat.{pow-le-pow_right}
 use lib.ListN.{length-map}
@@ -9,16 +9,10 @@ use Rattle.model.specs.Order.{chance}
 use Rattle.theory.specs.Words.{sixteens}
 use Rattle.theory.proofs.Digits.{digits_length}
 use Rattle.theory.proofs.Filled.{filled_more}
-use Rattle.words.proofs.Loops.{figure_from, figure-step, figure-end}
+use Rattle.words.proofs.Loops.{figure_from, figure-step}
 use Rattle.figures.specs.Weights.{ReadsWeights}
 
 -- ---- bounds
-
--- the product of seven weights and an eighth fits a word
-pub word_holds : (a b : ℕ) → a < 2 ^ 56 → b ≤ 255 → a * b < 2 ^ 64
-word_holds a b h k =
-    let most : a * b ≤ 72057594037927935 * 255 = mul-le-mul {n₂ = 72057594037927935} (omega arith) k in
-    omega arith
 
 -- one factor more
 pub factors_most : (v a b : ℕ) → a ≤ 255 ^ v → b ≤ 255 → a * b ≤ 255 ^ (v + 1)
@@ -39,18 +33,14 @@ module _ (d : ℕ) (t : List ℕ) (code v so_far : ℕ) (few : d ≤ 8)
       let step = figure-step true d t (digits 16 16 code) v l (rw (digits_length 16 16 code) (omega arith)) (rw (← digit.0) digit.1) in
       mul_assoc so_far b _ ∙ rw (weight, ← step) (old h)
 
-  -- after the last variable it is the product of all
-  pub product_whole : v ≡ d → ReadsWeights d t code → so_far ≡ chance (sixteens d t) (digits 16 16 code)
-  product_whole e h = sym (mul-one so_far) ∙ rw (figure-end true d t (digits 16 16 code) v e) at (old h)
-
 -- ---- a list of figures
 
 -- with one place more written, it is filled for one code more
-pub filled_next : (g : ℕ → ℕ) (codes buffer : List ℕ) (i : ℕ) {list : List ℕ} {x : ℕ} → i < length codes → i < length buffer
-    → list ≡ filled (map g (take i codes)) buffer → x ≡ g (get_or codes i 0) → set list i x ≡ filled (map g (take (i + 1) codes)) buffer
-filled_next g codes buffer i h k old e =
-    rw (old, e, add-one i, take-suc codes i 0 h, map-append g (take i codes) (get_or codes i 0 ∷ []))
-    (more (map g (take i codes)) (g (get_or codes i 0)) i (length-map (take i codes) g ∙ length-take-le i codes (omega arith)) k)
+pub filled_next : {A : Type 0} (give : ℕ → A) (codes : List ℕ) (buffer : List A) (i : ℕ) {list : List A} {x : A} → i < length codes → i < length buffer
+    → list ≡ filled (map give (take i codes)) buffer → x ≡ give (get_or codes i 0) → set list i x ≡ filled (map give (take (i + 1) codes)) buffer
+filled_next {A} give codes buffer i h k old e =
+    rw (old, e, add-one i, take-suc codes i 0 h, map-append give (take i codes) (get_or codes i 0 ∷ []))
+    (more (map give (take i codes)) (give (get_or codes i 0)) i (length-map (take i codes) give ∙ length-take-le i codes (omega arith)) k)
   where
-    more : (xs : List ℕ) (x i : ℕ) → length xs ≡ i → i < length buffer → set (filled xs buffer) i x ≡ filled (xs ++ (x ∷ [])) buffer
+    more : (xs : List A) (x : A) (i : ℕ) → length xs ≡ i → i < length buffer → set (filled xs buffer) i x ≡ filled (xs ++ (x ∷ [])) buffer
     more xs x i l k = rw (← l) (filled_more xs buffer x (rw l k))

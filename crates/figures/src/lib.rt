@@ -10,22 +10,22 @@ ghost use Rattle.model.specs.Digits.{digits};
 ghost use Rattle.model.specs.Order.{join, figure_of, cost, chance};
 ghost use Rattle.theory.specs.Words.{sixteens};
 ghost use Rattle.figures.specs.Weights.{ReadsWeights};
+ghost use Rattle.figures.specs.Answers.{Answers};
 
 use limits::VALUES;
-use std::num::{wrapping_add_u64, wrapping_sub_u64};
 use words::digit_at;
 
 // Weights are below this.
 const WEIGHTS: u64 = 256;
 
-// Products of seven weights are below this: 2 to the 56th.
-const SEVEN_WEIGHTS: u64 = 72057594037927936;
+// Products of seven weights are below this.
+const SEVEN_WEIGHTS: u64 = 1 << 56;
 
 // A table's weight as a number that products can be made of.
 fn factor(x: u16) -> u64
     ensures { (x < 256 → result ≡ x) × (result ≤ 255) }
 {
-    x as u64 % WEIGHTS
+    u64::from(x) % WEIGHTS
 }
 
 // The product of two numbers, where a word holds it.
@@ -40,7 +40,8 @@ fn times(a: u64, b: u64) -> u64
 fn exchanged_cost(sum: u64, old: u16, new: u16) -> u64
     ensures { (rest : ℕ) → sum ≡ old + rest → rest < 2 ^ 56 → result ≡ new + rest }
 {
-    wrapping_add_u64(wrapping_sub_u64(sum, old as u64), new as u64)
+    sum.wrapping_sub(u64::from(old))
+        .wrapping_add(u64::from(new))
 }
 
 // The product with one variable's weight taken out.
@@ -50,7 +51,7 @@ fn without(product: u64, weight: u16) -> u64
     if weight == 0 {
         return 0;
     }
-    product / weight as u64
+    product / u64::from(weight)
 }
 
 // The product with one variable's weight taken out and another put in.
@@ -76,12 +77,9 @@ pub fn product(code: u64, prices: &[u16], d: usize) -> u64
     ensures product { ReadsWeights d prices.now code → result ≡ chance (sixteens d prices.now) (digits 16 16 code) }
     ensures most { result ≤ 255 ^ 8 }
 {
-    let mut so_far: u64 = 1;
-    let mut v = 0;
-    while v < d {
-        let x = digit_at(code, v);
-        so_far = times(so_far, factor(prices[VALUES * v + x]));
-        v += 1;
+    let mut so_far = 1;
+    for v in 0..d {
+        so_far = times(so_far, factor(prices[VALUES * v + digit_at(code, v)]));
     }
     so_far
 }
@@ -92,9 +90,19 @@ pub fn figure(code: u64, prices: &[u16], d: usize, weighed: bool) -> u64
     ensures { (weighed ≡ true → ReadsWeights d prices.now code) → result ≡ figure_of weighed (sixteens d prices.now) (digits 16 16 code) }
 {
     if !weighed {
-        return words::cost(code, prices, d) as u64;
+        return u64::from(words::cost(code, prices, d));
     }
     product(code, prices, d)
+}
+
+// Fills the first places with the figures of the codes.
+fn fill<T: Copy, F: Fn(u64) -> T>(figures: &mut [T], codes: &[u64], figure: F)
+    requires { (length codes.now ≤ length figures.old) × F.IsAlwaysCallable figure }
+    ensures { (g : ℕ → T) → Answers g (F.post figure) codes.now → figures.new ≡ filled (map g codes.now) figures.old }
+{
+    for (i, code) in codes.iter().enumerate() {
+        figures[i] = figure(*code);
+    }
 }
 
 // Fills the first places with the costs of the first n codes.
@@ -102,11 +110,7 @@ pub fn fill_costs(costs: &mut [u32], codes: &[u64], n: usize, prices: &[u16], d:
     requires { (n ≤ length codes.now) × (n ≤ length costs.old) × (d ≤ 16) × (16 * d ≤ length prices.now) }
     ensures { costs.new ≡ filled (map (λ c. cost (sixteens d prices.now) (digits 16 16 c)) (take n codes.now)) costs.old }
 {
-    let mut i = 0;
-    while i < n {
-        costs[i] = words::cost(codes[i], prices, d);
-        i += 1;
-    }
+    fill(costs, &codes[..n], |code| words::cost(code, prices, d));
 }
 
 // Fills the first places with the products of the first n codes.
@@ -114,9 +118,5 @@ pub fn fill_products(products: &mut [u64], codes: &[u64], n: usize, prices: &[u1
     requires { (n ≤ length codes.now) × (n ≤ length products.old) × (d ≤ 8) × (16 * d ≤ length prices.now) }
     ensures { ((i : ℕ) → i < n → ReadsWeights d prices.now (slice_index codes.now i)) → products.new ≡ filled (map (λ c. chance (sixteens d prices.now) (digits 16 16 c)) (take n codes.now)) products.old }
 {
-    let mut k = 0;
-    while k < n {
-        products[k] = product(codes[k], prices, d);
-        k += 1;
-    }
+    fill(products, &codes[..n], |code| product(code, prices, d));
 }

@@ -6,6 +6,8 @@ use Prim.Native.Nat.{ℕ, ◌+◌, ◌*◌, ◌/◌, ◌≤◌, ◌<◌}
 use native.Mathlib.Omega.{arith}
 use lib.ListN.{length, set, length-append, length-map}
 use borrow.Author.Tests.{lt-ltb, le-ltb}
+use Rattle.std.specs.Prelude.{Result, Ok, Err}
+use Rattle.std.specs.declared.ops.ControlFlow.TheVariants.{Continue, Break}
 use Rattle.model.specs.Lists.{All, filled, in_turn}
 use Rattle.model.specs.Sheet.{decision_sizes}
 use Rattle.model.specs.Assignment.{Assignment, Valid, is_full, value_list, code}
@@ -24,7 +26,8 @@ use Rattle.theory.proofs.Puts.{filled-then}
 use Rattle.theory.proofs.Shown.{accepted-few, shown-bytes}
 use Rattle.theory.proofs.Nodes.{full-best}
 use Rattle.theory.proofs.Order.{edition-lawful}
-use Rattle.conflict.specs.declared.reduce.Reduced.{Reduced as Answer}
+use Rattle.conflict.specs.declared.reduce.Reduction.{Reduction}
+use Rattle.conflict.specs.declared.reduce.Spent.{Spent}
 use Rattle.conflict.specs.Reduced.{Reduces}
 use Rattle.queue.specs.Order.{Suits}
 use Rattle.queue.specs.Queue.{Holds}
@@ -33,12 +36,15 @@ use Rattle.store.specs.Store.{Keeps}
 use Rattle.children.specs.declared.Node.{Node}
 use Rattle.judge.specs.declared.Progress.{Progress}
 use Rattle.judge.specs.declared.Ending.{Ending as Ended}
-use Rattle.judge.specs.declared.Next.{Next as After}
-use Rattle.judge.specs.Standing.{Question, order_in, Written, Removed, CanCount, NextIs}
+use Rattle.judge.specs.Standing.{Question, order_in, Written, Removed, CanCount, After, NextIs}
 
 -- a run so far, by its numbers of entries, its states and its counts
 abbrev pub progress : (queued stored listed tested learned unkept trials : ℕ) → Progress
-progress a b c d e f h = record { queued = a; stored = b; listed = c; tested = d; learned = e; unkept = f; trials = h }
+progress a b c d e f h = record { queued = a; stored = b; counts = record { listed = c; tested = d; learned = e; unkept = f; trials = h } }
+
+-- a run that the limit or the tests' greatest count has ended
+abbrev pub spent_with : Progress → After
+spent_with g = Break (record { ending = Ended.Spent; progress = g })
 
 -- a buffer filled from a mapped list has one place more filled by writing to it
 written-more : {A : Type 0} (f : A → ℕ) (xs : List A) (x : A) (buffer before : List ℕ) (n y : ℕ)
@@ -66,18 +72,18 @@ module _ {weighed : Bool} {q : Question weighed} {limit : ℕ} {queue store code
   written = t.turn.standing.written
 
   -- the tallies' sum, while the limit has not struck
-  sum : g.tested ≡ g.listed + g.learned + g.unkept
+  sum : g.counts.tested ≡ g.counts.listed + g.counts.learned + g.counts.unkept
   sum =
       let k = t.turn.going in
       let e : strikes t.state.struck ≡ 0 = ap strikes k.unstruck in
       omega (arith, k.kept.sum, written.listed-is, written.tested-is, written.learned-is, written.unkept-is)
 
   -- no more states are listed than were tested
-  pub listed-less : g.listed ≤ g.tested
+  pub listed-less : g.counts.listed ≤ g.counts.tested
   listed-less = omega (arith, sum)
 
   -- while the tests are not at their greatest count, one more can be counted
-  pub can_count : (g.tested ≡ most_tested → ⊥) → CanCount g
+  pub can_count : (g.counts.tested ≡ most_tested → ⊥) → CanCount g.counts
   can_count h = record {
     tested-less = omega (arith, t.turn.going.kept.tested, written.tested-is, h);
     learned-less = omega (arith, sum);
@@ -85,19 +91,19 @@ module _ {weighed : Bool} {q : Question weighed} {limit : ℕ} {queue store code
   }
 
   -- there is room for a state more
-  listed-place : (f : List ℕ → ℕ) (buffer lent : List ℕ) → lent ≡ filled (map f t.state.listed) buffer → q.wanted ≤ length buffer → g.listed < length lent
+  listed-place : (f : List ℕ → ℕ) (buffer lent : List ℕ) → lent ≡ filled (map f t.state.listed) buffer → q.wanted ≤ length buffer → g.counts.listed < length lent
   listed-place f buffer lent e room =
       let l : length t.state.listed ≤ length buffer = omega (arith, t.wanting, room) in
       omega (arith, written.listed-is, t.wanting, room, written_length f t.state.listed buffer lent e l)
 
-  pub codes-place : g.listed < length codes
+  pub codes-place : g.counts.listed < length codes
   codes-place = listed-place code q.codes codes written.codes-are t.turn.codes-room
 
   -- the bytes that show the states listed so far
   shown_so_far : length (in_turn value_bytes t.state.shown) ≡ state_bytes * length t.state.listed
   shown_so_far = shown-bytes q.plant (accepted-few weighed q.plant t.is.accepted) t.state.listed t.state.shown t.turn.going.kept.shown
 
-  pub values-place : state_bytes * g.listed + state_bytes ≤ length values
+  pub values-place : state_bytes * g.counts.listed + state_bytes ≤ length values
   values-place =
       let long : length values ≡ length q.values =
       ap length written.values-are ∙ filled_length (in_turn value_bytes t.state.shown) q.values (omega (arith, shown_so_far, t.wanting, t.turn.values-room)) in
@@ -115,7 +121,7 @@ module _ {weighed : Bool} {q : Question weighed} {limit : ℕ} {queue store code
     after = learn q.plant (order_in q) q.wanted (length queue / 2) (length store / 2) limit t.state t.rest t.parent trials
 
     -- the store is full: the node is unkept
-    pub learn-unkept : length store / 2 ≤ g.stored → NextIs q queue store codes values (After.More (progress g.queued g.stored g.listed (g.tested + 1) g.learned (g.unkept + 1) trials)) after
+    pub learn-unkept : length store / 2 ≤ g.stored → NextIs q queue store codes values (Continue (progress g.queued g.stored g.counts.listed (g.counts.tested + 1) g.counts.learned (g.counts.unkept + 1) trials)) after
     unfolding learn
     learn-unkept h = rw (learn, le-ltb (length t.state.store) (length store / 2) (omega (arith, written.keeps.count))) record {
       holds = t.turn.standing.holds;
@@ -132,15 +138,15 @@ module _ {weighed : Bool} {q : Question weighed} {limit : ℕ} {queue store code
       };
     }
 
-    module _ (free : g.stored < length store / 2) (r : Answer) (h : Reduces q.plant (reduce q.plant limit t.parent trials) r) where
+    module _ (free : g.stored < length store / 2) (r : Result Reduction Spent) (h : Reduces q.plant (reduce q.plant limit t.parent trials) r) where
       has-place : length t.state.store < length store / 2
       has-place = omega (arith, written.keeps.count, free)
 
       -- the limit struck in the reduction
-      pub learn-spent : {u : ℕ} (later : List ℕ) → r ≡ Answer.Spent u → NextIs q later store codes values (After.Ended Ended.Spent (progress g.queued g.stored g.listed (g.tested + 1) g.learned g.unkept u)) after
+      pub learn-spent : {s : Spent} (later : List ℕ) → r ≡ Err s → NextIs q later store codes values (spent_with (progress g.queued g.stored g.counts.listed (g.counts.tested + 1) g.counts.learned g.counts.unkept s.trials)) after
       unfolding learn
-      learn-spent {u} later e =
-          let k : reduce q.plant limit t.parent trials ≡ Reduced.spent u = rw e at h in
+      learn-spent {s} later e =
+          let k : reduce q.plant limit t.parent trials ≡ Reduced.spent s.trials = rw e at h in
           rw (learn, lt-ltb (length t.state.store) (length store / 2) has-place, k) (
             refl,
             record {
@@ -156,14 +162,14 @@ module _ {weighed : Bool} {q : Question weighed} {limit : ℕ} {queue store code
           )
 
       -- the conflict is put into the store, and the queue is sieved by it
-      pub learn-conflict : {m x u : ℕ} → r ≡ Answer.Conflict m x u → (left places : ℕ) (queue' store' : List ℕ) → length queue' ≡ length queue
-          → ((d : ℕ) (conflicts : List Assignment) (c : Assignment) → Keeps d store g.stored conflicts → Words c m x → length c ≡ d → Keeps d store' places (stored conflicts c))
-          → (left ≤ g.queued) × ((ss : List ℕ) (o : Order) (nodes : List Assignment) (c : Assignment) → Suits ss o → weighed ≡ o.weighed → All (Valid ss) nodes → Words c m x → length c ≡ length ss
+      pub learn-conflict : {f : Reduction} → r ≡ Ok f → (left places : ℕ) (queue' store' : List ℕ) → length queue' ≡ length queue
+          → ((d : ℕ) (conflicts : List Assignment) (c : Assignment) → Keeps d store g.stored conflicts → Words c f.mask f.values → length c ≡ d → Keeps d store' places (stored conflicts c))
+          → (left ≤ g.queued) × ((ss : List ℕ) (o : Order) (nodes : List Assignment) (c : Assignment) → Suits ss o → weighed ≡ o.weighed → All (Valid ss) nodes → Words c f.mask f.values → length c ≡ length ss
           → Holds o g.queued queue nodes → Holds o left queue' (leave_off (c ∷ []) nodes))
-          → NextIs q queue' store' codes values (After.More (progress left places g.listed (g.tested + 1) (g.learned + 1) g.unkept u)) after
+          → NextIs q queue' store' codes values (Continue (progress left places g.counts.listed (g.counts.tested + 1) (g.counts.learned + 1) g.counts.unkept f.trials)) after
       unfolding learn
-      learn-conflict {m} {x} {u} e left places queue' store' long put_in sieved =
-          let k : Reduces q.plant (reduce q.plant limit t.parent trials) (Answer.Conflict m x u) = rw e at h in
+      learn-conflict {f} e left places queue' store' long put_in sieved =
+          let k : Reduces q.plant (reduce q.plant limit t.parent trials) (Ok f) = rw e at h in
           let members = valid_length (decision_sizes q.plant) k.0 k.1.valid in
           rw (learn, lt-ltb (length t.state.store) (length store / 2) has-place, k.2) record {
             holds = sieved.1 (decision_sizes q.plant) (order_in q) t.rest k.0 (node-entry t.is).0 (node-entry t.is).1 rest-valid k.1.words members
@@ -188,20 +194,20 @@ module _ {weighed : Bool} {q : Question weighed} {limit : ℕ} {queue store code
   judged = judge q.plant (order_in q) q.wanted (length queue / 2) (length store / 2) limit t.state t.rest t.parent
 
   -- the tests are at their greatest count
-  pub judge-most : (later : List ℕ) → g.tested ≡ most_tested → NextIs q later store codes values (After.Ended Ended.Spent g) judged
+  pub judge-most : (later : List ℕ) → g.counts.tested ≡ most_tested → NextIs q later store codes values (spent_with g) judged
   unfolding judge
   judge-most later e = rw (judge, le-ltb t.state.tested most_tested (omega (arith, written.tested-is))) (refl, written)
 
-  module _ (less : g.tested ≡ most_tested → ⊥) where
+  module _ (less : g.counts.tested ≡ most_tested → ⊥) where
     below : t.state.tested < most_tested
     below = omega (arith, (can_count less).tested-less, written.tested-is)
 
     -- the node has as many trials before it as are counted
-    counted : (e : Tested) → test q.plant limit t.parent g.trials ≡ e → test q.plant limit t.parent t.state.trials ≡ e
+    counted : (e : Tested) → test q.plant limit t.parent g.counts.trials ≡ e → test q.plant limit t.parent t.state.trials ≡ e
     counted e h = rw written.trials-is at h
 
     -- the limit struck in the test
-    pub judge-spent : {u : ℕ} (later : List ℕ) → test q.plant limit t.parent g.trials ≡ Tested.spent u → NextIs q later store codes values (After.Ended Ended.Spent (progress g.queued g.stored g.listed g.tested g.learned g.unkept u)) judged
+    pub judge-spent : {u : ℕ} (later : List ℕ) → test q.plant limit t.parent g.counts.trials ≡ Tested.spent u → NextIs q later store codes values (spent_with (progress g.queued g.stored g.counts.listed g.counts.tested g.counts.learned g.counts.unkept u)) judged
     unfolding judge
     judge-spent {u} later e = rw (judge, lt-ltb t.state.tested most_tested below, counted (Tested.spent u) e) (
       refl,
@@ -218,14 +224,14 @@ module _ {weighed : Bool} {q : Question weighed} {limit : ℕ} {queue store code
     )
 
     -- it was inconsistent
-    pub judge-learn : {u : ℕ} → test q.plant limit t.parent g.trials ≡ inconsistent u → judged ≡ after u
+    pub judge-learn : {u : ℕ} → test q.plant limit t.parent g.counts.trials ≡ inconsistent u → judged ≡ after u
     unfolding judge
     judge-learn {u} e = rw (judge, lt-ltb t.state.tested most_tested below, counted (inconsistent u) e)
 
     -- it was consistent: the state is listed
-    pub judge-listed : {f : List ℕ} {u : ℕ} {bytes : List ℕ} → is_full t.parent ≡ true → test q.plant limit t.parent g.trials ≡ consistent f u
-        → bytes ≡ shown_by (test q.plant limit t.parent g.trials)
-        → NextIs q queue store (set codes g.listed node.code) (put (state_bytes * g.listed) bytes values) (After.More (progress g.queued g.stored (g.listed + 1) (g.tested + 1) g.learned g.unkept u)) judged
+    pub judge-listed : {f : List ℕ} {u : ℕ} {bytes : List ℕ} → is_full t.parent ≡ true → test q.plant limit t.parent g.counts.trials ≡ consistent f u
+        → bytes ≡ shown_by (test q.plant limit t.parent g.counts.trials)
+        → NextIs q queue store (set codes g.counts.listed node.code) (put (state_bytes * g.counts.listed) bytes values) (Continue (progress g.queued g.stored (g.counts.listed + 1) (g.counts.tested + 1) g.counts.learned g.counts.unkept u)) judged
     unfolding judge shown_by
     judge-listed {f} {u} {bytes} full e s =
         let o = order_in q in
@@ -236,9 +242,9 @@ module _ {weighed : Bool} {q : Question weighed} {limit : ℕ} {queue store code
           room = t.turn.standing.room;
           written = record {
             keeps = written.keeps;
-            codes-are = written-more code t.state.listed (value_list t.parent) q.codes codes g.listed node.code written.codes-are written.listed-is
+            codes-are = written-more code t.state.listed (value_list t.parent) q.codes codes g.counts.listed node.code written.codes-are written.listed-is
                 (t.is.code_is ∙ ap code b) (omega (arith, t.wanting, t.turn.codes-room));
-            values-are = values-more t.state.shown f q.values values bytes g.listed (length t.state.listed) written.values-are shown_so_far written.listed-is (s ∙ ap shown_by e);
+            values-are = values-more t.state.shown f q.values values bytes g.counts.listed (length t.state.listed) written.values-are shown_so_far written.listed-is (s ∙ ap shown_by e);
             listed-is = simp length-append (omega (arith, written.listed-is));
             tested-is = omega (arith, written.tested-is);
             learned-is = written.learned-is;

@@ -1,5 +1,7 @@
 -- What the words of a run stand for between its steps, and what a step makes of them. Assumes nothing: these are definitions.
 use Rattle.std.specs.Prelude.{◌≡◌, Bool, List, ◌∷◌, map, ℕ, ◌+◌, ◌*◌, ◌≤◌, ◌<◌, length, set}
+use Rattle.std.specs.declared.ops.ControlFlow.{ControlFlow}
+use Rattle.std.specs.declared.ops.ControlFlow.TheVariants.{Continue, Break}
 use Rattle.model.specs.Lists.{filled, in_turn}
 use Rattle.model.specs.Sheet.{Plant, edition_of}
 use Rattle.model.specs.Assignment.{Assignment, code}
@@ -8,13 +10,16 @@ use Rattle.model.specs.Calls.{state_bytes, value_bytes}
 use Rattle.model.specs.Listing.{State, Ending, enough, all, full, spent, Next, ended, more, most_tested}
 use Rattle.theory.specs.Puts.{written}
 use Rattle.theory.specs.Run.{Going}
+use Rattle.theory.specs.Tables.{Tabled}
+use Rattle.clauses.specs.declared.tables.Decoded.{Decoded}
 use Rattle.queue.specs.Queue.{Holds}
 use Rattle.store.specs.Store.{Keeps}
 use Rattle.children.specs.declared.Node.{Node}
 use Rattle.children.specs.Children.{NodeIs}
 use Rattle.judge.specs.declared.Progress.{Progress}
+use Rattle.judge.specs.declared.Counts.{Counts}
 use Rattle.judge.specs.declared.Ending.{Ending as Ended}
-use Rattle.judge.specs.declared.Next.{Next as After}
+use Rattle.judge.specs.declared.Finished.{Finished}
 
 -- what a run is about: a plant whose figures are weights or costs, how many states are wanted, and what codes and values held before
 pub record Question (weighed : Bool) : Type 0 where
@@ -22,6 +27,10 @@ pub record Question (weighed : Bool) : Type 0 where
   pub wanted : ℕ
   pub codes : List ℕ
   pub values : List ℕ
+
+-- the tables, with these prices, are the plant's
+abbrev pub TabledBy : Plant → Decoded → (prices : List ℕ) → Type 0
+TabledBy p plant prices = Tabled p plant.decisions plant.sizes.now prices plant.counts.now plant.lits.now
 
 -- the order of its states
 abbrev pub order_in : {weighed : Bool} → Question weighed → Order
@@ -32,11 +41,11 @@ pub record Written {weighed : Bool} (q : Question weighed) (store codes values :
   pub keeps : Keeps (length q.plant.costs) store g.stored s.store
   pub codes-are : codes ≡ filled (map code s.listed) q.codes
   pub values-are : values ≡ filled (in_turn value_bytes s.shown) q.values
-  pub listed-is : g.listed ≡ length s.listed
-  pub tested-is : g.tested ≡ s.tested
-  pub learned-is : g.learned ≡ s.learned
-  pub unkept-is : g.unkept ≡ s.unkept
-  pub trials-is : g.trials ≡ s.trials
+  pub listed-is : g.counts.listed ≡ length s.listed
+  pub tested-is : g.counts.tested ≡ s.tested
+  pub learned-is : g.counts.learned ≡ s.learned
+  pub unkept-is : g.counts.unkept ≡ s.unkept
+  pub trials-is : g.counts.trials ≡ s.trials
 
 -- and the queue holds these nodes
 pub record Standing {weighed : Bool} (q : Question weighed) (queue store codes values : List ℕ) (g : Progress) (s : State) (nodes : List Assignment) : Type 0 where
@@ -65,22 +74,22 @@ pub record Removed {weighed : Bool} (q : Question weighed) (limit : ℕ) (queue 
   pub wanting : length state.listed < q.wanted
 
 -- no count can go beyond its greatest
-pub record CanCount (g : Progress) : Type 0 where
-  pub tested-less : g.tested < most_tested
-  pub learned-less : g.learned ≤ g.tested
-  pub unkept-less : g.unkept ≤ g.tested
+pub record CanCount (k : Counts) : Type 0 where
+  pub tested-less : k.tested < most_tested
+  pub learned-less : k.learned ≤ k.tested
+  pub unkept-less : k.unkept ≤ k.tested
 
 -- ---- what a step made
 
 -- a test more has been made, with so many trials
-abbrev pub counted : Progress → ℕ → Progress
-counted g trials = record { queued = g.queued; stored = g.stored; listed = g.listed; tested = g.tested + 1; learned = g.learned; unkept = g.unkept; trials = trials }
+abbrev pub counted : Counts → ℕ → Counts
+counted k trials = record { listed = k.listed; tested = k.tested + 1; learned = k.learned; unkept = k.unkept; trials = trials }
 
 -- a state more has been listed: the node's, whose code and values are written behind the others
-pub record ListedOne (g : Progress) (node : Node) (trials : ℕ) (shown codes values codes' values' : List ℕ) (r : Progress) : Type 0 where
-  pub codes-are : codes' ≡ set codes g.listed node.code
-  pub values-are : values' ≡ written (state_bytes * g.listed) shown values
-  pub progress-is : r ≡ record { queued = g.queued; stored = g.stored; listed = g.listed + 1; tested = g.tested + 1; learned = g.learned; unkept = g.unkept; trials = trials }
+pub record ListedOne (k : Counts) (node : Node) (trials : ℕ) (shown codes values codes' values' : List ℕ) (r : Counts) : Type 0 where
+  pub codes-are : codes' ≡ set codes k.listed node.code
+  pub values-are : values' ≡ written (state_bytes * k.listed) shown values
+  pub counts-are : r ≡ record { listed = k.listed + 1; tested = k.tested + 1; learned = k.learned; unkept = k.unkept; trials = trials }
 
 -- the ending's name in the model
 abbrev pub ending_of : Ended → Ending
@@ -89,9 +98,13 @@ ending_of Ended.All = all
 ending_of Ended.Full = full
 ending_of Ended.Spent = spent
 
+-- the code's answer after a step
+abbrev pub After : Type 0
+After = ControlFlow Finished Progress
+
 -- what a step made of the words is what it makes of the state
 abbrev pub NextIs : {weighed : Bool} → Question weighed → (queue store codes values : List ℕ) → After → Next → Type 0
-NextIs q queue store codes values (After.More g) (more s) = Standing q queue store codes values g s s.queue
-NextIs q queue store codes values (After.Ended e g) (ended f s) = (ending_of e ≡ f) × Written q store codes values g s
-NextIs q queue store codes values (After.More g) (ended f s) = ⊥
-NextIs q queue store codes values (After.Ended e g) (more s) = ⊥
+NextIs q queue store codes values (Continue g) (more s) = Standing q queue store codes values g s s.queue
+NextIs q queue store codes values (Break f) (ended e s) = (ending_of f.ending ≡ e) × Written q store codes values f.progress s
+NextIs q queue store codes values (Continue g) (ended e s) = ⊥
+NextIs q queue store codes values (Break f) (more s) = ⊥

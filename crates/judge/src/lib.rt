@@ -8,25 +8,24 @@ ghost use Rattle.std.specs.Prelude.{◌≡◌, true, List, ℕ, ◌+◌, ◌*◌
 ghost use Rattle.model.specs.Assignment.{is_full};
 ghost use Rattle.model.specs.Calls.{state_bytes};
 ghost use Rattle.model.specs.Listing.{most_tested, learn, judge};
-ghost use Rattle.theory.specs.Tables.{Tabled};
-ghost use Rattle.conflict.specs.Given.{Ready};
+ghost use Rattle.model.specs.Text.{ending_word};
+ghost use Rattle.conflict.specs.Given.{ReadyFor};
 ghost use Rattle.plan.specs.Plans.{plan_words};
-ghost use Rattle.judge.specs.Standing.{Question, order_in, Removed, CanCount, counted, ListedOne, NextIs};
+ghost use Rattle.judge.specs.Standing.{Question, TabledBy, order_in, Removed, CanCount, counted, ListedOne, ending_of, NextIs};
 
 use children::Node;
-use clauses::sets::Sat;
-use conflict::reduce::{Reduced, reduce};
+use clauses::tables::Decoded;
+use conflict::reduce::reduce;
 use conflict::tests::test_shown;
 use limits::{MOST_TESTED, STATE_BYTES};
 use plan::Plan;
+use std::ops::ControlFlow;
 use text::put_bytes;
 use trials::Answer;
 
-// How far a run is: the entries of queue and store, the states listed, and the counts.
-#[derive(Clone, Copy)]
-pub struct Progress {
-    pub queued: usize,
-    pub stored: usize,
+// The counts of a run: the states listed, the tests, the conflicts learned and those that were not kept, and the trials.
+#[derive(Clone, Copy, Debug, Default, PartialEq, Eq)]
+pub struct Counts {
     pub listed: u32,
     pub tested: u32,
     pub learned: u32,
@@ -34,13 +33,13 @@ pub struct Progress {
     pub trials: u32,
 }
 
-impl Progress {
+impl Counts {
     // A test more, with so many trials made.
-    fn counted(self, trials: u32) -> Progress
+    fn counted(self, trials: u32) -> Counts
         requires { self.tested < most_tested }
         ensures { result ≡ counted self trials }
     {
-        Progress {
+        Counts {
             tested: self.tested + 1,
             trials,
             ..self
@@ -48,8 +47,16 @@ impl Progress {
     }
 }
 
+// How far a run is: the entries of queue and store, and the counts.
+#[derive(Clone, Copy, Debug, PartialEq, Eq)]
+pub struct Progress {
+    pub queued: usize,
+    pub stored: usize,
+    pub counts: Counts,
+}
+
 // The four endings.
-#[derive(Clone, Copy)]
+#[derive(Clone, Copy, Debug, PartialEq, Eq)]
 pub enum Ending {
     Enough,
     All,
@@ -57,21 +64,33 @@ pub enum Ending {
     Spent,
 }
 
-// After a step: the run goes on, or it has ended.
-#[derive(Clone, Copy)]
-pub enum Next {
-    More(Progress),
-    Ended(Ending, Progress),
+impl Ending {
+    // The word that tells it, with the space behind it.
+    pub fn word(self) -> &'static [u8]
+        ensures { result.now ≡ ending_word (ending_of self) }
+    {
+        match self {
+            Ending::Enough => b"enough ",
+            Ending::All => b"all ",
+            Ending::Full => b"full ",
+            Ending::Spent => b"spent ",
+        }
+    }
 }
+
+// A run that has ended.
+#[derive(Clone, Copy, Debug, PartialEq, Eq)]
+pub struct Finished {
+    pub ending: Ending,
+    pub progress: Progress,
+}
+
+// After a step: the run goes on, or it has ended.
+pub type Next = ControlFlow<Finished, Progress>;
 
 // Step 7 after a test that was inconsistent with so many trials: the node is unkept, or its conflict is learned, and the stored ones that contain it and the queue nodes that manifest it are removed.
 fn learn(
-    d: usize,
-    sizes: &[u8],
-    counts: &[u8],
-    lits: &[u8],
-    sat: &Sat,
-    uses: &[u64],
+    plant: &Decoded,
     plan: &mut Plan,
     weighed: bool,
     queue: &mut [u64],
@@ -81,41 +100,41 @@ fn learn(
     trials: u32,
     limit: u32,
 ) -> Next
-    requires { Ready d sizes.now counts.now lits.now sat.now uses.now plan.old × CanCount g × (2 * g.queued ≤ length queue.old) }
-    ensures answer { (q : Question weighed) (prices codes values : List ℕ) → Tabled q.plant d sizes.now prices counts.now lits.now
+    requires { ReadyFor plant.now plan.old × CanCount g.counts × (2 * g.queued ≤ length queue.old) }
+    ensures answer { (q : Question weighed) (prices codes values : List ℕ) → TabledBy q.plant plant.now prices
         → (t : Removed q limit queue.old store.old codes values g node)
         → NextIs q queue.new store.new codes values result
         (learn q.plant (order_in q) q.wanted (length queue.old / 2) (length store.old / 2) limit t.state t.rest t.parent trials) }
     ensures long { length plan.new ≡ plan_words }
 {
     if store.len() / 2 <= g.stored {
-        return Next::More(Progress {
-            unkept: g.unkept + 1,
-            ..g.counted(trials)
+        return ControlFlow::Continue(Progress {
+            counts: Counts {
+                unkept: g.counts.unkept + 1,
+                ..g.counts.counted(trials)
+            },
+            ..g
         });
     }
-    match reduce(
-        d,
-        sizes,
-        counts,
-        lits,
-        sat,
-        uses,
-        plan,
-        node.mask,
-        children::values(node),
-        trials,
-        limit,
-    ) {
-        Reduced::Spent(t) => Next::Ended(Ending::Spent, g.counted(t)),
-        Reduced::Conflict(mask, values, t) => {
-            let stored = subsumption::learn(store, g.stored, mask, values);
-            let left = queue::sieve(queue, g.queued, weighed, mask, values);
-            Next::More(Progress {
+    let held = children::values(node);
+    match reduce(plant, plan, node.mask, held, trials, limit) {
+        Err(spent) => ControlFlow::Break(Finished {
+            ending: Ending::Spent,
+            progress: Progress {
+                counts: g.counts.counted(spent.trials),
+                ..g
+            },
+        }),
+        Ok(found) => {
+            let stored = subsumption::learn(store, g.stored, found.mask, found.values);
+            let left = queue::sieve(queue, g.queued, weighed, found.mask, found.values);
+            ControlFlow::Continue(Progress {
                 queued: left,
                 stored,
-                learned: g.learned + 1,
-                ..g.counted(t)
+                counts: Counts {
+                    learned: g.counts.learned + 1,
+                    ..g.counts.counted(found.trials)
+                },
             })
         }
     }
@@ -125,31 +144,26 @@ fn learn(
 fn list(
     codes: &mut [u64],
     values: &mut [u8],
-    g: Progress,
+    so_far: Counts,
     node: Node,
     trials: u32,
     shown: &[u8; STATE_BYTES],
-) -> Progress
-    requires { CanCount g × (g.listed ≤ g.tested) × (g.listed < length codes.old) × (state_bytes * g.listed + state_bytes ≤ length values.old) }
-    ensures { ListedOne g node trials shown.now codes.old values.old codes.new values.new result }
+) -> Counts
+    requires { CanCount so_far × (so_far.listed ≤ so_far.tested) × (so_far.listed < length codes.old) × (state_bytes * so_far.listed + state_bytes ≤ length values.old) }
+    ensures { ListedOne so_far node trials shown.now codes.old values.old codes.new values.new result }
 {
-    let at = g.listed as usize;
+    let at = so_far.listed as usize;
     codes[at] = node.code;
     put_bytes(values, STATE_BYTES * at, shown);
-    Progress {
-        listed: g.listed + 1,
-        ..g.counted(trials)
+    Counts {
+        listed: so_far.listed + 1,
+        ..so_far.counted(trials)
     }
 }
 
 // Step 7: tests the node, which is full, unless the tests are at their greatest count, and lists its state or learns.
 pub fn judge(
-    d: usize,
-    sizes: &[u8],
-    counts: &[u8],
-    lits: &[u8],
-    sat: &Sat,
-    uses: &[u64],
+    plant: &Decoded,
     plan: &mut Plan,
     weighed: bool,
     codes: &mut [u64],
@@ -160,36 +174,38 @@ pub fn judge(
     node: Node,
     limit: u32,
 ) -> Next
-    requires { Ready d sizes.now counts.now lits.now sat.now uses.now plan.old × ((q : Question weighed) × Removed q limit queue.old store.old codes.old values.old g node) }
-    ensures answer { (q : Question weighed) (prices : List ℕ) → Tabled q.plant d sizes.now prices counts.now lits.now
+    requires { ReadyFor plant.now plan.old × ((q : Question weighed) × Removed q limit queue.old store.old codes.old values.old g node) }
+    ensures answer { (q : Question weighed) (prices : List ℕ) → TabledBy q.plant plant.now prices
         → (t : Removed q limit queue.old store.old codes.old values.old g node) → is_full t.parent ≡ true
         → NextIs q queue.new store.new codes.new values.new result
         (judge q.plant (order_in q) q.wanted (length queue.old / 2) (length store.old / 2) limit t.state t.rest t.parent) }
     ensures long { length plan.new ≡ plan_words }
 {
-    if g.tested == MOST_TESTED {
-        return Next::Ended(Ending::Spent, g);
+    if g.counts.tested == MOST_TESTED {
+        return ControlFlow::Break(Finished {
+            ending: Ending::Spent,
+            progress: g,
+        });
     }
-    let test = test_shown(
-        d,
-        sizes,
-        counts,
-        lits,
-        sat,
-        uses,
-        plan,
-        node.mask,
-        children::values(node),
-        g.trials,
-        limit,
-    );
+    let held = children::values(node);
+    let test = test_shown(plant, plan, node.mask, held, g.counts.trials, limit);
     let answer = test.answer;
     let shown = test.values;
     match answer {
-        Answer::Spent(t) => Next::Ended(Ending::Spent, Progress { trials: t, ..g }),
-        Answer::Inconsistent(t) => learn(
-            d, sizes, counts, lits, sat, uses, plan, weighed, queue, store, g, node, t, limit,
-        ),
-        Answer::Consistent(t) => Next::More(list(codes, values, g, node, t, &shown)),
+        Answer::Spent(t) => ControlFlow::Break(Finished {
+            ending: Ending::Spent,
+            progress: Progress {
+                counts: Counts {
+                    trials: t,
+                    ..g.counts
+                },
+                ..g
+            },
+        }),
+        Answer::Inconsistent(t) => learn(plant, plan, weighed, queue, store, g, node, t, limit),
+        Answer::Consistent(t) => ControlFlow::Continue(Progress {
+            counts: list(codes, values, g.counts, node, t, &shown),
+            ..g
+        }),
     }
 }

@@ -1,8 +1,6 @@
-// What a plant and a call may have at most, by name, and a byte as an index. The lengths of tables that are made for the
-// largest plant stand with those tables. The definitions have the same names: `most_listed` is MOST_LISTED.
+// What a plant and a call may have at most, by name. The lengths of tables that are made for the largest plant stand with
+// those tables. The definitions have the same names: `most_listed` is MOST_LISTED.
 #![tactic(auto)]
-
-ghost use Rattle.std.specs.Prelude.{◌≡◌};
 
 // Decision variables, and those of a sheet whose figures are weights.
 pub const DECISIONS: usize = 16;
@@ -35,10 +33,3 @@ pub const MOST_WORDS: usize = 8192;
 
 // Tests that a run counts.
 pub const MOST_TESTED: u32 = 4294967295;
-
-// The byte as an index.
-pub fn wide(x: u8) -> usize
-    ensures { result ≡ x }
-{
-    x as usize
-}

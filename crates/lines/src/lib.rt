@@ -39,11 +39,9 @@ pub fn put_states(out: &mut [u8], at: usize, codes: &[u64], costs: &[u32], liste
     ensures { Puts at (lines_of codes.now costs.now listed) out.old result out.new }
 {
     let mut next = at;
-    let mut i = 0;
-    while i < listed {
+    for i in 0..listed {
         let rank = i as u64 + 1;
         next = put_state(out, next, rank, costs[i] as u64, codes[i]);
-        i += 1;
     }
     next
 }

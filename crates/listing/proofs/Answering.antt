@@ -8,23 +8,23 @@ use Rattle.model.specs.Sheet.{Plant, edition_of}
 use Rattle.model.specs.Listing.{Next, ended}
 use Rattle.model.specs.Tables.{clauses}
 use Rattle.theory.specs.Plant.{Accepted}
-use Rattle.theory.specs.Tables.{Tabled}
 use Rattle.theory.specs.Value.{PreferredValues}
 use Rattle.plan.specs.Plans.{plan_words}
 use Rattle.clauses.specs.Tables.{Prepared}
 use Rattle.store.proofs.Callers.{keeps-room}
-use Rattle.steps.specs.declared.Finished.{Finished}
+use Rattle.judge.specs.declared.Finished.{Finished}
 use Rattle.judge.specs.declared.Ending.{Ending as Ended}
-use Rattle.judge.specs.Standing.{Question, ending_of}
+use Rattle.judge.specs.Standing.{Question, TabledBy, ending_of}
+use Rattle.expand.specs.declared.Query.{Query}
 use Rattle.steps.specs.Run.{FinishedAs}
 use Rattle.listing.specs.declared.Ran.{Ran}
 use Rattle.listing.specs.Listing.{question, Room, Lists, Finishes, counts_of, RanAs}
 
 -- a plant's tables and buffers with room are what steps 1 to 7 are given
-abbrev pub lists_of : {p : Plant} {d : ℕ} {sizes prices counts lits sat uses plan : List ℕ} (weighed : Bool) {preferred k held : ℕ} {codes values queue store : List ℕ} → Tabled p d sizes prices counts lits
-    → Accepted (edition_of weighed) p → Prepared (clauses counts lits) sat uses → length plan ≡ plan_words → PreferredValues weighed p preferred → Room k held codes values queue store
-    → Lists d sizes prices counts lits sat uses plan weighed preferred k held codes values queue store
-lists_of {p = p} weighed t ok s l e r = record { plant = p; tables = record { tabled = t; accepted = ok; prepared = s; planned = l; preferred-is = e }; room = r }
+abbrev pub lists_of : {p : Plant} {query : Query} {held : ℕ} {plan codes values queue store : List ℕ} → TabledBy p query.plant query.prices.now
+    → Accepted (edition_of query.weighed) p → Prepared (clauses query.plant.counts.now query.plant.lits.now) query.plant.sat.now query.plant.uses.now → length plan ≡ plan_words
+    → PreferredValues query.weighed p query.preferred → Room query.wanted held codes values queue store → Lists query held plan codes values queue store
+lists_of {p = p} t ok s l e r = record { plant = p; tables = record { tabled = t; accepted = ok; prepared = s; planned = l; preferred-is = e }; room = r }
 
 -- the store has room for the conflicts that it keeps at the end
 pub finished_room : {weighed : Bool} {q : Question weighed} {store codes values : List ℕ} {f : Finished} {n : Next} → FinishedAs q store codes values f n → 2 * f.progress.stored ≤ length store

@@ -5,6 +5,7 @@ use mathlib.Core.List.{List, [], ◌∷◌, map}
 use Prim.Native.Nat.{ℕ, ◌/◌, ◌≤◌, ◌<◌}
 use native.Mathlib.Omega.{arith}
 use lib.ListN.{length, replicate}
+use Rattle.std.specs.Prelude.{Ok, Err}
 use Rattle.plan.specs.Plans.{plan_words}
 use Rattle.model.specs.Lists.{place}
 use Rattle.model.specs.Sheet.{Plant, edition_of, decision_sizes}
@@ -35,9 +36,10 @@ use Rattle.children.specs.Children.{NodeIs}
 use Rattle.offers.specs.declared.Offered.{Offered}
 use Rattle.judge.specs.declared.Progress.{Progress}
 use Rattle.judge.specs.declared.Ending.{Ending as Ended}
-use Rattle.steps.specs.declared.Finished.{Finished}
+use Rattle.judge.specs.declared.Finished.{Finished}
 use Rattle.offers.specs.Offers.{OfferedAs}
 use Rattle.judge.specs.Standing.{Written, Turn}
+use Rattle.expand.specs.declared.Query.{Query}
 use Rattle.steps.specs.Run.{Steps, FinishedAs}
 use Rattle.steps.proofs.Running.{tabled-present, tabled-at-least}
 use Rattle.listing.specs.Listing.{question, Lists, first, Survivors}
@@ -91,8 +93,8 @@ module _ (w : Bool) {p : Plant} {d : ℕ} {sizes prices counts lits : List ℕ} 
 -- ---- the words at the start
 
 -- the store, the list and the counts are those of the start
-start-written : (weighed : Bool) {p : Plant} {limit : ℕ} {survivors : List Assignment} {used : ℕ} {store : List ℕ} {stored : ℕ} (k : ℕ) (codes values : List ℕ) (queued : ℕ)
-    → Survivors p limit survivors used store stored → Written (question weighed p k codes values) store codes values (first queued stored used) (start (decision_sizes p) survivors used)
+start-written : (weighed : Bool) {p : Plant} {limit : ℕ} {survivors : List Assignment} {store : List ℕ} {o : Offered} (k : ℕ) (codes values : List ℕ) (queued : ℕ)
+    → Survivors p limit survivors store o → Written (question weighed p k codes values) store codes values (first queued o) (start (decision_sizes p) survivors o.trials)
 unfolding start
 start-written weighed k codes values queued s = record {
   keeps = s.keeps;
@@ -105,36 +107,35 @@ start-written weighed k codes values queued s = record {
   trials-is = refl;
 }
 
-module _ {d : ℕ} {sizes prices counts lits sat uses plan : List ℕ} {weighed : Bool} {preferred k held : ℕ} {codes values queue store : List ℕ}
-    (t : Lists d sizes prices counts lits sat uses plan weighed preferred k held codes values queue store) where
+module _ {query : Query} {held : ℕ} {plan codes values queue store : List ℕ} (t : Lists query held plan codes values queue store) where
   -- what the tables give still holds with another plan and another store
-  abbrev pub lists-again : {plan' store' : List ℕ} → length plan' ≡ plan_words → Lists d sizes prices counts lits sat uses plan' weighed preferred k 0 codes values queue store'
+  abbrev pub lists-again : {plan' store' : List ℕ} → length plan' ≡ plan_words → Lists query 0 plan' codes values queue store'
   lists-again l = record {
     plant = t.plant;
     tables = record { tabled = t.tables.tabled; accepted = t.tables.accepted; prepared = t.tables.prepared; planned = l; preferred-is = t.tables.preferred-is };
     room = record { codes-room = t.room.codes-room; values-room = t.room.values-room; queue-room = t.room.queue-room; store-room = omega arith };
   }
 
-  module _ {limit : ℕ} {survivors : List Assignment} {used : ℕ} {store' : List ℕ} {stored : ℕ} (s : Survivors t.plant limit survivors used store' stored) where
+  module _ {survivors : List Assignment} {store' : List ℕ} {o : Offered} (s : Survivors t.plant query.limit survivors store' o) where
     -- with the root in the queue
-    pub start-turn : (queue' : List ℕ) → length queue' ≡ length queue → Holds (order_of (edition_of weighed) t.plant) 1 queue' (enqueue (order_of (edition_of weighed) t.plant) (unassigned (decision_sizes t.plant)) [])
-        → Turn (question weighed t.plant k codes values) limit queue' store' codes values (first 1 stored used) (start (decision_sizes t.plant) survivors used) (start (decision_sizes t.plant) survivors used).queue
+    pub start-turn : (queue' : List ℕ) → length queue' ≡ length queue → Holds (order_of (edition_of query.weighed) t.plant) 1 queue' (enqueue (order_of (edition_of query.weighed) t.plant) (unassigned (decision_sizes t.plant)) [])
+        → Turn (question query.weighed t.plant query.wanted codes values) query.limit queue' store' codes values (first 1 o) (start (decision_sizes t.plant) survivors o.trials) (start (decision_sizes t.plant) survivors o.trials).queue
     unfolding start place
     start-turn queue' e h =
         let b = t.tables.tabled in
         record {
           survivors = survivors;
-          going = start-going t.plant (order_of (edition_of weighed) t.plant) (edition-lawful weighed t.plant t.tables.accepted) (tabled-present b) (tabled-at-least b) k limit survivors used s.conflicts s.apart s.within;
-          standing = record { holds = h; room = omega (arith, t.room.queue-room); written = start-written weighed k codes values 1 s };
+          going = start-going t.plant (order_of (edition_of query.weighed) t.plant) (edition-lawful query.weighed t.plant t.tables.accepted) (tabled-present b) (tabled-at-least b) query.wanted query.limit survivors o.trials s.conflicts s.apart s.within;
+          standing = record { holds = h; room = omega (arith, t.room.queue-room); written = start-written query.weighed query.wanted codes values 1 s };
           codes-room = t.room.codes-room;
           values-room = t.room.values-room;
         }
 
-    abbrev pub start-steps : {g : Progress} → g ≡ first 1 stored used → (queue' : List ℕ) → length queue' ≡ length queue → Holds (order_of (edition_of weighed) t.plant) 1 queue' (enqueue (order_of (edition_of weighed) t.plant) (unassigned (decision_sizes t.plant)) [])
-        → Steps d sizes prices counts lits sat uses plan weighed preferred k limit codes values queue' store' g
+    abbrev pub start-steps : {g : Progress} → g ≡ first 1 o → (queue' : List ℕ) → length queue' ≡ length queue → Holds (order_of (edition_of query.weighed) t.plant) 1 queue' (enqueue (order_of (edition_of query.weighed) t.plant) (unassigned (decision_sizes t.plant)) [])
+        → Steps query plan codes values queue' store' g
     start-steps f queue' e h = record {
-      question = question weighed t.plant k codes values;
-      state = start (decision_sizes t.plant) survivors used;
+      question = question query.weighed t.plant query.wanted codes values;
+      state = start (decision_sizes t.plant) survivors o.trials;
       asked = refl;
       tables = t.tables;
       turn = rw f (start-turn queue' e h);
@@ -147,39 +148,38 @@ start-enough ss survivors used = omega arith
 
 -- ---- step 1
 
-module _ {d : ℕ} {sizes prices counts lits sat uses plan : List ℕ} {weighed : Bool} {preferred k held : ℕ} {codes values queue store : List ℕ}
-    (t : Lists d sizes prices counts lits sat uses plan weighed preferred k held codes values queue store) (limit : ℕ) where
+module _ {query : Query} {held : ℕ} {plan codes values queue store : List ℕ} (t : Lists query held plan codes values queue store) where
   -- how step 1 ends
   abbrev offered : Checked
-  offered = check_offers t.plant limit [] (offers_of held store) 0
+  offered = check_offers t.plant query.limit [] (offers_of held store) 0
 
-  survived : Survived t.plant limit (offers_of held store) offered
-  survived = offers-survive t.plant (tabled-present t.tables.tabled) limit (offers_of held store)
+  survived : Survived t.plant query.limit (offers_of held store) offered
+  survived = offers-survive t.plant (tabled-present t.tables.tabled) query.limit (offers_of held store)
 
-  module _ {after : List ℕ} {m used : ℕ} where
+  module _ {after : List ℕ} {o : Offered} where
     -- all were checked: the survivors are conflicts
-    pub checked-survivors : (o : OfferedAs t.plant after (Offered.Checked m used) offered) → Survivors t.plant limit o.0 used after m
-    checked-survivors o = let s : Survived t.plant limit (offers_of held store) (checked o.0 used) = rw o.2 at survived in record { keeps = o.1; conflicts = s.0.conflicts; apart = s.0.apart; within = s.1 }
+    pub checked-survivors : (s : OfferedAs t.plant after (Ok o) offered) → Survivors t.plant query.limit s.0 after o
+    checked-survivors s = let a : Survived t.plant query.limit (offers_of held store) (checked s.0 o.trials) = rw s.2 at survived in record { keeps = s.1; conflicts = a.0.conflicts; apart = a.0.apart; within = a.1 }
 
     -- and the listing is the run from there
-    pub checked-ends : (f : Finished) (codes' values' : List ℕ) (o : OfferedAs t.plant after (Offered.Checked m used) offered) (store' : List ℕ) → length after ≡ length store
-        → FinishedAs (question weighed t.plant k codes values) store' codes' values' f
-        (run t.plant (order_of (edition_of weighed) t.plant) k (length queue / 2) (length after / 2) limit (enough_steps (decision_sizes t.plant)) (start (decision_sizes t.plant) o.0 used))
-        → FinishedAs (question weighed t.plant k codes values) store' codes' values' f
-        (listing t.plant (order_of (edition_of weighed) t.plant) k (length queue / 2) (length store / 2) (offers_of held store) limit)
+    pub checked-ends : (f : Finished) (codes' values' : List ℕ) (s : OfferedAs t.plant after (Ok o) offered) (store' : List ℕ) → length after ≡ length store
+        → FinishedAs (question query.weighed t.plant query.wanted codes values) store' codes' values' f
+        (run t.plant (order_of (edition_of query.weighed) t.plant) query.wanted (length queue / 2) (length after / 2) query.limit (enough_steps (decision_sizes t.plant)) (start (decision_sizes t.plant) s.0 o.trials))
+        → FinishedAs (question query.weighed t.plant query.wanted codes values) store' codes' values' f
+        (listing t.plant (order_of (edition_of query.weighed) t.plant) query.wanted (length queue / 2) (length store / 2) (offers_of held store) query.limit)
     unfolding listing
-    checked-ends f codes' values' o store' e h = rw (listing, o.2, ← e) h
+    checked-ends f codes' values' s store' e h = rw (listing, s.2, ← e) h
 
     -- the limit struck before the last
-    pub broken_ends : {g : Progress} → g ≡ first 0 m used → OfferedAs t.plant after (Offered.BrokenOff m used) offered
-        → FinishedAs (question weighed t.plant k codes values) after codes values (record { ending = Ended.Spent; progress = g })
-        (listing t.plant (order_of (edition_of weighed) t.plant) k (length queue / 2) (length store / 2) (offers_of held store) limit)
+    pub broken_ends : {g : Progress} → g ≡ first 0 o → OfferedAs t.plant after (Err o) offered
+        → FinishedAs (question query.weighed t.plant query.wanted codes values) after codes values (record { ending = Ended.Spent; progress = g })
+        (listing t.plant (order_of (edition_of query.weighed) t.plant) query.wanted (length queue / 2) (length store / 2) (offers_of held store) query.limit)
     unfolding listing
-    broken_ends f o =
-        let s : Survived t.plant limit (offers_of held store) (broken_off o.0 used) = rw o.2 at survived in
-        let within : used ≤ limit = omega (arith, s.4) in
+    broken_ends f s =
+        let a : Survived t.plant query.limit (offers_of held store) (broken_off s.0 o.trials) = rw s.2 at survived in
+        let within : o.trials ≤ query.limit = omega (arith, a.4) in
         record {
-          state = start (decision_sizes t.plant) o.0 used;
-          ends = rw (listing, o.2);
-          written = rw f (start-written weighed k codes values 0 (record { keeps = o.1; conflicts = s.3.conflicts; apart = s.3.apart; within = within }));
+          state = start (decision_sizes t.plant) s.0 o.trials;
+          ends = rw (listing, s.2);
+          written = rw f (start-written query.weighed query.wanted codes values 0 (record { keeps = s.1; conflicts = a.3.conflicts; apart = a.3.apart; within = within }));
         }

@@ -1,5 +1,5 @@
 -- What the listing over decoded tables answers and leaves, as the model's. Assumes nothing: these are definitions.
-use Rattle.std.specs.Prelude.{◌≡◌, Bool, List, map, ℕ, ◌*◌, ◌≤◌, length, replicate}
+use Rattle.std.specs.Prelude.{◌≡◌, Bool, List, map, ℕ, ◌*◌, ◌≤◌, length, replicate, Result, Ok, Err}
 use Rattle.model.specs.Lists.{All, Pairs, filled, in_turn}
 use Rattle.model.specs.Sheet.{Plant, edition_of}
 use Rattle.model.specs.Assignment.{Assignment, code}
@@ -9,13 +9,15 @@ use Rattle.model.specs.Listing.{State, Next, ended}
 use Rattle.model.specs.Calls.{refused, answered, Buffers, Counts, counts_of as countsIn, ran, Answer, Called, state_bytes, value_bytes, entry_words, run_of, called_of}
 use Rattle.theory.specs.Store.{Neither}
 use Rattle.store.specs.Store.{Keeps}
+use Rattle.refusal.specs.declared.Refusal.{Refusal as Whose}
 use Rattle.refusal.specs.Refusal.{refusal_of}
-use Rattle.steps.specs.declared.Finished.{Finished}
+use Rattle.offers.specs.declared.Offered.{Offered}
+use Rattle.judge.specs.declared.Finished.{Finished}
 use Rattle.judge.specs.declared.Progress.{Progress}
 use Rattle.judge.specs.Standing.{Question, ending_of}
+use Rattle.expand.specs.declared.Query.{Query}
 use Rattle.expand.specs.Expands.{Tables}
-use Rattle.listing.specs.declared.Answer.{Answer as Answers}
-use Rattle.listing.specs.declared.Counts.{Counts as Tallies}
+use Rattle.judge.specs.declared.Counts.{Counts as Tallies}
 use Rattle.listing.specs.declared.Ran.{Ran}
 
 abbrev pub question : (weighed : Bool) → Plant → ℕ → (codes values : List ℕ) → Question weighed
@@ -34,21 +36,21 @@ pub record Room (k held : ℕ) (codes values queue store : List ℕ) : Type 0 wh
   pub store-room : 2 * held ≤ length store
 
 -- before step 1
-pub record Lists (d : ℕ) (sizes prices counts lits sat uses plan : List ℕ) (weighed : Bool) (preferred k held : ℕ) (codes values queue store : List ℕ) : Type 0 where
+pub record Lists (query : Query) (held : ℕ) (plan codes values queue store : List ℕ) : Type 0 where
   pub plant : Plant
-  pub tables : Tables weighed plant d sizes prices counts lits sat uses plan preferred
-  pub room : Room k held codes values queue store
+  pub tables : Tables plant query plan
+  pub room : Room query.wanted held codes values queue store
 
--- how far a run is at its start: nothing is listed, tested, learned or left unkept
-abbrev pub first : (queued stored trials : ℕ) → Progress
-first queued stored trials = record { queued = queued; stored = stored; listed = 0; tested = 0; learned = 0; unkept = 0; trials = trials }
+-- how far a run is at its start, after step 1: nothing is listed, tested, learned or left unkept
+abbrev pub first : ℕ → Offered → Progress
+first queued o = record { queued = queued; stored = o.survivors; counts = record { listed = 0; tested = 0; learned = 0; unkept = 0; trials = o.trials } }
 
 -- the store keeps the survivors of step 1, conflicts of which none contains another, and the trials are within the limit
-pub record Survivors (p : Plant) (limit : ℕ) (survivors : List Assignment) (used : ℕ) (store : List ℕ) (stored : ℕ) : Type 0 where
-  pub keeps : Keeps (length p.costs) store stored survivors
+pub record Survivors (p : Plant) (limit : ℕ) (survivors : List Assignment) (store : List ℕ) (o : Offered) : Type 0 where
+  pub keeps : Keeps (length p.costs) store o.survivors survivors
   pub conflicts : All (Conflict p) survivors
   pub apart : Pairs Neither survivors
-  pub within : used ≤ limit
+  pub within : o.trials ≤ limit
 
 -- ---- the answer
 
@@ -56,19 +58,19 @@ abbrev pub counts_of : Tallies → Counts
 counts_of c = record { listed = c.listed; tested = c.tested; learned = c.learned; unkept = c.unkept; trials = c.trials }
 
 -- what the call answers
-abbrev pub answer_of : Answers → Answer
-answer_of (Answers.Refused r) = refused (refusal_of r)
-answer_of (Answers.Ran e c) = answered (ran (ending_of e) (counts_of c))
+abbrev pub answer_of : Result Ran Whose → Answer
+answer_of (Err r) = refused (refusal_of r)
+answer_of (Ok r) = answered (ran (ending_of r.ending) (counts_of r.counts))
 
 -- `finish`: the run's ending and counts are told, the queue is zero, and so is the store behind its conflicts
 pub record Finishes (f : Finished) (queue store queueAfter storeAfter : List ℕ) (r : Ran) : Type 0 where
   pub ending-is : r.ending ≡ f.ending
-  pub counts-are : r.counts ≡ record { listed = f.progress.listed; tested = f.progress.tested; learned = f.progress.learned; unkept = f.progress.unkept; trials = f.progress.trials }
+  pub counts-are : r.counts ≡ f.progress.counts
   pub queue-is : queueAfter ≡ replicate (length queue) 0
   pub store_is : (d : ℕ) (conflicts : List Assignment) → Keeps d store f.progress.stored conflicts → storeAfter ≡ filled (entry_words conflicts) (replicate (length store) 0)
 
 -- the answer and every lent word are those of the model's call
-pub record CalledAs (r : Answers) (after : Buffers) (c : Called) : Type 0 where
+pub record CalledAs (r : Result Ran Whose) (after : Buffers) (c : Called) : Type 0 where
   pub answer-is : answer_of r ≡ c.answer
   pub after_is : after ≡ c.after
 

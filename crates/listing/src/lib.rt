@@ -12,142 +12,105 @@ ghost use Rattle.model.specs.Calls.{offers_of};
 ghost use Rattle.theory.specs.Plant.{Accepted};
 ghost use Rattle.theory.specs.Tables.{Tabled};
 ghost use Rattle.theory.specs.Value.{PreferredValues};
+ghost use Rattle.judge.specs.Standing.{TabledBy};
 ghost use Rattle.children.specs.Children.{NodeIs};
 ghost use Rattle.steps.specs.Run.{FinishedAs};
 ghost use Rattle.listing.specs.Listing.{question, Room, Lists, first, Survivors, Finishes, RanAs};
 
 use children::Node;
-use clauses::sets::{SAT_WORDS, Sat, USES_WORDS};
-use clauses::tables::prepare;
-use judge::{Ending, Progress};
+use clauses::sets::{SAT_WORDS, USES_WORDS};
+use clauses::tables::{Decoded, prepare};
+use expand::Query;
+pub use judge::Counts;
+use judge::{Ending, Finished, Progress};
 use offers::{Offered, check_all};
 use plan::{PLAN_WORDS, Plan};
-use refusal::Refusal;
-use steps::{Finished, run};
-
-// The counts of a run.
-#[derive(Clone, Copy)]
-pub struct Counts {
-    pub listed: u32,
-    pub tested: u32,
-    pub learned: u32,
-    pub unkept: u32,
-    pub trials: u32,
-}
-
-// A refusal, which says whose, or a run with its ending and counts.
-#[derive(Clone, Copy)]
-pub enum Answer {
-    Refused(Refusal),
-    Ran(Ending, Counts),
-}
+use steps::run;
 
 // A run's ending and its counts.
-#[derive(Clone, Copy)]
+#[derive(Clone, Copy, Debug, PartialEq, Eq)]
 pub struct Ran {
     pub ending: Ending,
     pub counts: Counts,
 }
 
 // The empty assignment as a node.
-fn root(weighed: bool, preferred: u64, prices: &[u16], d: usize) -> Node
-    requires { (d ≤ 16) × (weighed ≡ true → d ≤ 8) × (16 * d ≤ length prices.now) }
-    ensures { (p : Plant) (sizes counts lits : List ℕ) → Tabled p d sizes prices.now counts lits → Accepted (edition_of weighed) p → PreferredValues weighed p preferred → NodeIs weighed p (unassigned (decision_sizes p)) result }
+fn root(query: &Query) -> Node
+    requires { (query.now.plant.decisions ≤ 16) × (query.now.weighed ≡ true → query.now.plant.decisions ≤ 8) × (16 * query.now.plant.decisions ≤ length query.now.prices.now) }
+    ensures { (p : Plant) → TabledBy p query.now.plant query.now.prices.now → Accepted (edition_of query.now.weighed) p → PreferredValues query.now.weighed p query.now.preferred
+        → NodeIs query.now.weighed p (unassigned (decision_sizes p)) result }
 {
     Node {
         mask: 0,
-        code: preferred,
-        figure: figures::figure(preferred, prices, d, weighed),
+        code: query.preferred,
+        figure: figures::figure(
+            query.preferred,
+            query.prices,
+            query.plant.decisions,
+            query.weighed,
+        ),
     }
 }
 
-// How far a run is at its start: nothing is listed, tested, learned or left unkept.
-fn first(queued: usize, stored: usize, trials: u32) -> Progress
-    ensures { result ≡ first queued stored trials }
+// How far a run is at its start, after step 1: nothing is listed, tested, learned or left unkept.
+fn first(queued: usize, offered: Offered) -> Progress
+    ensures { result ≡ first queued offered }
 {
     Progress {
         queued,
-        stored,
-        listed: 0,
-        tested: 0,
-        learned: 0,
-        unkept: 0,
-        trials,
+        stored: offered.survivors,
+        counts: Counts {
+            trials: offered.trials,
+            ..Counts::default()
+        },
     }
 }
 
-// Steps 2 to 7 with so many survivors in the store and so many trials made.
+// Steps 2 to 7 after step 1.
 fn from_root(
-    d: usize,
-    sizes: &[u8],
-    prices: &[u16],
-    counts: &[u8],
-    lits: &[u8],
-    sat: &Sat,
-    uses: &[u64],
+    query: &Query,
     plan: &mut Plan,
-    weighed: bool,
-    preferred: u64,
     codes: &mut [u64],
     values: &mut [u8],
     queue: &mut [u64],
     store: &mut [u64],
-    stored: usize,
-    used: u32,
-    k: u32,
-    limit: u32,
+    offered: Offered,
 ) -> Finished
-    requires { (t : Lists d sizes.now prices.now counts.now lits.now sat.now uses.now plan.old weighed preferred k 0 codes.old values.old queue.old store.old)
-        × (survivors : List Assignment) × Survivors t.plant limit survivors used store.old stored }
-    ensures { (t : Lists d sizes.now prices.now counts.now lits.now sat.now uses.now plan.old weighed preferred k 0 codes.old values.old queue.old store.old)
-        (survivors : List Assignment) → Survivors t.plant limit survivors used store.old stored
-        → FinishedAs (question weighed t.plant k codes.old values.old) store.new codes.new values.new result
-        (run t.plant (order_of (edition_of weighed) t.plant) k (length queue.old / 2) (length store.old / 2) limit (enough_steps (decision_sizes t.plant)) (start (decision_sizes t.plant) survivors used)) }
+    requires { (t : Lists query.now 0 plan.old codes.old values.old queue.old store.old)
+        × (survivors : List Assignment) × Survivors t.plant query.now.limit survivors store.old offered }
+    ensures { (t : Lists query.now 0 plan.old codes.old values.old queue.old store.old)
+        (survivors : List Assignment) → Survivors t.plant query.now.limit survivors store.old offered
+        → FinishedAs (question query.now.weighed t.plant query.now.wanted codes.old values.old) store.new codes.new values.new result
+        (run t.plant (order_of (edition_of query.now.weighed) t.plant) query.now.wanted (length queue.old / 2) (length store.old / 2) query.now.limit (enough_steps (decision_sizes t.plant)) (start (decision_sizes t.plant) survivors offered.trials)) }
 {
-    let progress = first(1, stored, used);
-    let node = root(weighed, preferred, prices, d);
-    let e = queue::entry_of(node.mask, node.code, node.figure, weighed);
-    queue::push(queue, 0, e.a, e.b);
-    run(
-        d, sizes, prices, counts, lits, sat, uses, plan, weighed, preferred, codes, values, queue,
-        store, progress, k, limit,
-    )
+    let progress = first(1, offered);
+    let node = root(query);
+    let entry = queue::entry_of(node.mask, node.code, node.figure, query.weighed);
+    queue::push(queue, 0, entry);
+    run(query, plan, codes, values, queue, store, progress)
 }
 
 // Steps 1 to 7.
 fn listing(
-    d: usize,
-    sizes: &[u8],
-    prices: &[u16],
-    counts: &[u8],
-    lits: &[u8],
-    sat: &Sat,
-    uses: &[u64],
+    query: &Query,
     plan: &mut Plan,
-    weighed: bool,
-    preferred: u64,
     codes: &mut [u64],
     values: &mut [u8],
     queue: &mut [u64],
     store: &mut [u64],
-    k: u32,
     held: usize,
-    limit: u32,
 ) -> Finished
-    requires { Lists d sizes.now prices.now counts.now lits.now sat.now uses.now plan.old weighed preferred k held codes.old values.old queue.old store.old }
-    ensures { (t : Lists d sizes.now prices.now counts.now lits.now sat.now uses.now plan.old weighed preferred k held codes.old values.old queue.old store.old)
-        → FinishedAs (question weighed t.plant k codes.old values.old) store.new codes.new values.new result
-        (listing t.plant (order_of (edition_of weighed) t.plant) k (length queue.old / 2) (length store.old / 2) (offers_of held store.old) limit) }
+    requires { Lists query.now held plan.old codes.old values.old queue.old store.old }
+    ensures { (t : Lists query.now held plan.old codes.old values.old queue.old store.old)
+        → FinishedAs (question query.now.weighed t.plant query.now.wanted codes.old values.old) store.new codes.new values.new result
+        (listing t.plant (order_of (edition_of query.now.weighed) t.plant) query.now.wanted (length queue.old / 2) (length store.old / 2) (offers_of held store.old) query.now.limit) }
 {
-    match check_all(d, sizes, counts, lits, sat, uses, plan, store, held, limit) {
-        Offered::BrokenOff(m, t) => Finished {
+    match check_all(&query.plant, plan, store, held, query.limit) {
+        Err(offered) => Finished {
             ending: Ending::Spent,
-            progress: first(0, m, t),
+            progress: first(0, offered),
         },
-        Offered::Checked(m, t) => from_root(
-            d, sizes, prices, counts, lits, sat, uses, plan, weighed, preferred, codes, values,
-            queue, store, m, t, k, limit,
-        ),
+        Ok(offered) => from_root(query, plan, codes, values, queue, store, offered),
     }
 }
 
@@ -156,27 +119,21 @@ fn finish(queue: &mut [u64], store: &mut [u64], f: Finished) -> Ran
     requires { 2 * f.progress.stored ≤ length store.old }
     ensures { Finishes f queue.old store.old queue.new store.new result }
 {
-    let ending = f.ending;
-    let g = f.progress;
     queue::clear(queue);
-    store::clear_from(store, g.stored);
-    let counts = Counts {
-        listed: g.listed,
-        tested: g.tested,
-        learned: g.learned,
-        unkept: g.unkept,
-        trials: g.trials,
-    };
-    Ran { ending, counts }
+    store::clear_from(store, f.progress.stored);
+    Ran {
+        ending: f.ending,
+        counts: f.progress.counts,
+    }
 }
 
 // The listing over decoded tables, whose figures are weights or costs.
-pub fn list_tables(
+pub fn list_tables<'a>(
     d: usize,
-    sizes: &[u8],
-    prices: &[u16],
-    counts: &[u8],
-    lits: &[u8],
+    sizes: &'a [u8],
+    prices: &'a [u16],
+    counts: &'a [u8],
+    lits: &'a [u8],
     weighed: bool,
     codes: &mut [u64],
     values: &mut [u8],
@@ -196,9 +153,21 @@ pub fn list_tables(
     let mut plan = [0u64; PLAN_WORDS];
     prepare(counts, lits, &mut sat, &mut uses);
     let preferred = preferred::preferred(sizes, prices, d, weighed);
-    let f = listing(
-        d, sizes, prices, counts, lits, &sat, &uses, &mut plan, weighed, preferred, codes, values,
-        queue, store, k, held, limit,
-    );
+    let query = Query {
+        plant: Decoded {
+            decisions: d,
+            sizes,
+            counts,
+            lits,
+            sat: &sat,
+            uses: &uses,
+        },
+        prices,
+        weighed,
+        preferred,
+        wanted: k,
+        limit,
+    };
+    let f = listing(&query, &mut plan, codes, values, queue, store, held);
     finish(queue, store, f)
 }

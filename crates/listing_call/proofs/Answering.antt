@@ -2,7 +2,7 @@
 use mathlib.Core.Path.{◌≡◌, refl, sym, ap, ◌∙◌, subst}
 use mathlib.Core.Bool.{Bool, true, false}
 use mathlib.Core.List.{List, map}
-use mathlib.Core.Option.{Option, none, some}
+use mathlib.Core.Option.{none, some}
 use Prim.Native.Nat.{ℕ, ◌*◌, ◌≤◌, ◌<◌}
 use native.Mathlib.Omega.{arith}
 use lib.ListN.{length, get_or, take, length-map}
@@ -12,7 +12,7 @@ use Rattle.model.specs.Sheet.{Plant, Read, edition_of, read_sheet, decision_size
 use Rattle.model.specs.Assignment.{Fits, code}
 use Rattle.model.specs.Order.{Order, figure_of, order_of}
 use Rattle.model.specs.Listing.{State, Ending, ended}
-use Rattle.model.specs.Calls.{Buffers, Counts, first_given, host_grounds, buffers_after, run_of, called_of, refusing, answered, ran, listing_with, listing_call}
+use Rattle.model.specs.Calls.{by_host, by_author, Buffers, Counts, first_given, host_grounds, buffers_after, run_of, called_of, refusing, answered, ran, listing_with, listing_call}
 use Rattle.theory.specs.Plant.{Accepted}
 use Rattle.theory.specs.Words.{sixteens}
 use Rattle.theory.specs.Demand3.{PromisedBy}
@@ -25,37 +25,32 @@ use Rattle.theory.proofs.Demand3.{queue-given, call-done, promised}
 use Rattle.figures.specs.Weights.{ReadsWeights}
 use Rattle.figures.proofs.Listed.{listed-figures, listed-weights}
 use Rattle.refusal.specs.declared.Refusal.{Refusal}
-use Rattle.refusal.specs.Refusal.{refusal_of, ground_number}
+use Rattle.std.specs.Prelude.{Result, Ok, Err}
 use Rattle.judge.specs.Standing.{ending_of}
-use Rattle.listing.specs.declared.Answer.{Answer as Answers}
 use Rattle.listing.specs.declared.Ran.{Ran}
 use Rattle.listing.specs.Listing.{buffers, answer_of, CalledAs}
 use Rattle.listing_call.specs.Calls.{shown, Promises}
 use Rattle.listing_call.specs.Listed.{RefusedOn, RanOn}
-use Rattle.listing_call.proofs.Refusing.{fit, room_of, figures-room}
+use Rattle.listing_call.proofs.Refusing.{room_of, figures-room}
 
 -- ---- refusals
 
 module _ (w : Bool) (sheet : List ℕ) (k : ℕ) (b : Buffers) (held limit : ℕ) (short : Bool) where
   -- a ground that is given: the host is refused
-  pub host_refused : {n : ℕ} → n ≡ ground_number (first_given (host_grounds k b held short)) → (n ≡ 0 → ⊥) → listing_with (edition_of w) sheet k b held limit short ≡ refusing b (refusal_of (Refusal.Host n))
+  pub host_refused : {n : ℕ} → some n ≡ first_given (host_grounds k b held short) → listing_with (edition_of w) sheet k b held limit short ≡ refusing b (by_host n)
   unfolding listing_with
-  host_refused {n} e h = go (first_given (host_grounds k b held short)) refl
-    where
-      go : (o : Option ℕ) → first_given (host_grounds k b held short) ≡ o → listing_with (edition_of w) sheet k b held limit short ≡ refusing b (refusal_of (Refusal.Host n))
-      go none q = absurd (h (e ∙ rw q))
-      go (some m) q = let f : n ≡ m = e ∙ rw q in rw (listing_with, q, f) refl
+  host_refused e = rw (listing_with, ← e) refl
 
   -- the sheet is refused
-  pub author-refused : 0 ≡ ground_number (first_given (host_grounds k b held short)) → {n : ℕ} → read_sheet (edition_of w) sheet ≡ Read.refused n
-      → listing_with (edition_of w) sheet k b held limit short ≡ refusing b (refusal_of (Refusal.Author n))
+  pub author-refused : none ≡ first_given (host_grounds k b held short) → {n : ℕ} → read_sheet (edition_of w) sheet ≡ Read.refused n
+      → listing_with (edition_of w) sheet k b held limit short ≡ refusing b (by_author n)
   unfolding listing_with
-  author-refused ok e = rw (listing_with, fit k b held short ok, e) refl
+  author-refused ok e = rw (listing_with, ← ok, e) refl
 
 -- a refused call is answered as the model's, with every lent buffer as it was
 pub refused-called : {w : Bool} {sheet : List ℕ} {k held limit : ℕ} {short : Bool} {figures : ℕ} {codes values queue store codes' values' queue' store' : List ℕ} {r : Refusal} (costs : List ℕ) → length costs ≡ figures
     → RefusedOn w sheet k held limit short figures codes values queue store codes' values' queue' store' r
-    → CalledAs (Answers.Refused r) (buffers codes' costs values' queue' store') (listing_with (edition_of w) sheet k (buffers codes costs values queue store) held limit short)
+    → CalledAs (Err r) (buffers codes' costs values' queue' store') (listing_with (edition_of w) sheet k (buffers codes costs values queue store) held limit short)
 refused-called costs e t = rw (t.refuses costs e, t.codes-kept, t.values-kept, t.queue-kept, t.store_kept) (record { answer-is = refl; after_is = refl })
 
 -- ---- the run, and its figures
@@ -99,8 +94,8 @@ module _ {w : Bool} {sheet : List ℕ} {k held limit : ℕ} {short : Bool} {figu
   pub listed-most : r.counts.listed ≤ k
   listed-most = omega (arith, listed-is, ap (λ (s : State). length s.listed) done.1.1, done.1.2)
 
-  no_ground_given : 0 ≡ ground_number (first_given (host_grounds k b held short))
-  no_ground_given = rw (t.fit costs long) refl
+  no_ground_given : none ≡ first_given (host_grounds k b held short)
+  no_ground_given = sym (t.fit costs long)
 
   pub costs-places : r.counts.listed ≤ length costs
   costs-places = omega (arith, listed-most, figures-room k b held short no_ground_given)
@@ -141,7 +136,7 @@ module _ {w : Bool} {sheet : List ℕ} {k held limit : ℕ} {short : Bool} {figu
 
   -- with the figures of the first codes filled in, the call is answered as the model's
   pub figures-called : (costs' : List ℕ) → costs' ≡ filled (map (λ c. figure_of w (sixteens d prices) (digits 16 16 c)) (take r.counts.listed codes')) costs
-      → CalledAs (Answers.Ran r.ending r.counts) (buffers codes' costs' values' queue' store') (listing_with (edition_of w) sheet k b held limit short)
+      → CalledAs (Ok r) (buffers codes' costs' values' queue' store') (listing_with (edition_of w) sheet k b held limit short)
   unfolding listing_with run_of called_of buffers_after
   figures-called costs' e =
       let f : costs' ≡ filled (map o.figure listed) costs =
@@ -154,11 +149,11 @@ module _ {w : Bool} {sheet : List ℕ} {k held limit : ℕ} {short : Bool} {figu
 -- ---- the promise
 
 -- an answer and buffers that are those of the model's call keep its promise
-pub kept : (w : Bool) (sheet : List ℕ) (k : ℕ) (b : Buffers) (held limit : ℕ) (short : Bool) {r : Answers} {after : Buffers} → CalledAs r after (listing_with (edition_of w) sheet k b held limit short)
+pub kept : (w : Bool) (sheet : List ℕ) (k : ℕ) (b : Buffers) (held limit : ℕ) (short : Bool) {r : Result Ran Refusal} {after : Buffers} → CalledAs r after (listing_with (edition_of w) sheet k b held limit short)
     → PromisedBy (edition_of w) sheet k b held limit (answer_of r) after (listing_with (edition_of w) sheet k b held limit short).struck
 kept w sheet k b held limit short h = rw (h.answer-is, h.after_is) (promised w sheet k b held limit short)
 
-module _ (sheet : List ℕ) (k : ℕ) (b : Buffers) (held limit : ℕ) {r : Answers} {after : Buffers} (h : CalledAs r after (listing_with (edition_of false) sheet k b held limit false)) where
+module _ (sheet : List ℕ) (k : ℕ) (b : Buffers) (held limit : ℕ) {r : Result Ran Refusal} {after : Buffers} (h : CalledAs r after (listing_with (edition_of false) sheet k b held limit false)) where
   pub called-shown : shown (listing_call sheet k b held limit) ≡ (answer_of r, after)
   unfolding listing_call
   called-shown = rw (h.answer-is, h.after_is)

@@ -1,7 +1,7 @@
 -- The host's refusals: the first ground that a test on the numbers finds is the model's. Assumes nothing.
-use mathlib.Core.Path.{◌≡◌, refl}
+use mathlib.Core.Path.{◌≡◌, refl, sym, ◌∙◌}
 use mathlib.Core.Bool.{Bool, true, false, not, ◌&&◌, ◌||◌}
-use mathlib.Core.Option.{none, some}
+use mathlib.Core.Option.{none, some, none-ne-some}
 use Prim.Native.Nat.{ℕ, ◌*◌, ◌/◌, ◌≤◌}
 use native.Mathlib.Omega.{arith}
 use borrow.Author.Tests.{ltb-false}
@@ -9,7 +9,6 @@ use lib.Dec.{ltb, leb}
 use lib.ListN.{length}
 use Rattle.model.specs.Calls.{Buffers, first_given, state_bytes, most_listed, most_words, host_grounds, odd}
 use Rattle.theory.proofs.Lists.{or_neither}
-use Rattle.refusal.specs.Refusal.{ground_number}
 use Rattle.listing.specs.Listing.{Room}
 
 module _ (k codes costs values queue store held : ℕ) (short : Bool) where
@@ -30,31 +29,31 @@ module _ (k codes costs values queue store held : ℕ) (short : Bool) where
   wrong_store = odd store || ltb most_words store || ltb (store / 2) held
 
   module _ (b : Buffers) (ec : length b.codes ≡ codes) (ed : length b.costs ≡ costs) (ev : length b.values ≡ values) (eq : length b.queue ≡ queue) (es : length b.store ≡ store) where
-    pub first-ground : wrong_count ≡ true → 1 ≡ ground_number (first_given (host_grounds k b held short))
+    pub first-ground : wrong_count ≡ true → some 1 ≡ first_given (host_grounds k b held short)
     unfolding first_given host_grounds
     first-ground p = rw (host_grounds, p)
 
     module _ (p : wrong_count ≡ false) where
-      pub second-ground : short_list ≡ true → 2 ≡ ground_number (first_given (host_grounds k b held short))
+      pub second-ground : short_list ≡ true → some 2 ≡ first_given (host_grounds k b held short)
       unfolding first_given host_grounds
       second-ground q = rw (host_grounds, p, ec, ed, q)
 
       module _ (q : short_list ≡ false) where
-        pub values-ground : short_values ≡ true → 19 ≡ ground_number (first_given (host_grounds k b held short))
+        pub values-ground : short_values ≡ true → some 19 ≡ first_given (host_grounds k b held short)
         unfolding first_given host_grounds
         values-ground v = rw (host_grounds, p, ec, ed, q, ev, v)
 
         module _ (v : short_values ≡ false) where
-          pub third-ground : wrong_queue ≡ true → 3 ≡ ground_number (first_given (host_grounds k b held short))
+          pub third-ground : wrong_queue ≡ true → some 3 ≡ first_given (host_grounds k b held short)
           unfolding first_given host_grounds
           third-ground r = rw (host_grounds, p, ec, ed, q, ev, v, eq, r)
 
           module _ (r : wrong_queue ≡ false) where
-            pub fourth_ground : wrong_store ≡ true → 4 ≡ ground_number (first_given (host_grounds k b held short))
+            pub fourth_ground : wrong_store ≡ true → some 4 ≡ first_given (host_grounds k b held short)
             unfolding first_given host_grounds
             fourth_ground s = rw (host_grounds, p, ec, ed, q, ev, v, eq, r, es, s)
 
-            pub no_ground : wrong_store ≡ false → 0 ≡ ground_number (first_given (host_grounds k b held short))
+            pub no_ground : wrong_store ≡ false → none ≡ first_given (host_grounds k b held short)
             unfolding first_given host_grounds
             no_ground s = rw (host_grounds, p, ec, ed, q, ev, v, eq, r, es, s)
 
@@ -73,7 +72,7 @@ short-given k b held = go (not (leb 1 k && leb k most_listed)) refl
 
 -- ---- what is not refused
 
-module _ (k : ℕ) (b : Buffers) (held : ℕ) (short : Bool) (h : 0 ≡ ground_number (first_given (host_grounds k b held short))) where
+module _ (k : ℕ) (b : Buffers) (held : ℕ) (short : Bool) (h : none ≡ first_given (host_grounds k b held short)) where
   -- no ground is given
   record Free : Type 0 where
     count : wrong_count k (length b.codes) (length b.costs) (length b.values) (length b.queue) (length b.store) held short ≡ false
@@ -102,11 +101,11 @@ module _ (k : ℕ) (b : Buffers) (held : ℕ) (short : Bool) (h : 0 ≡ ground_n
 
       go : (p q v r s : Bool) → wrong_count k cs ds vs qs ss held short ≡ p → short_list k cs ds vs qs ss held short ≡ q → short_values k cs ds vs qs ss held short ≡ v
           → wrong_queue k cs ds vs qs ss held short ≡ r → wrong_store k cs ds vs qs ss held short ≡ s → Free
-      go true q v r s e f l g i = absurd (omega (arith, h, first-ground k cs ds vs qs ss held short b refl refl refl refl refl e))
-      go false true v r s e f l g i = absurd (omega (arith, h, second-ground k cs ds vs qs ss held short b refl refl refl refl refl e f))
-      go false false true r s e f l g i = absurd (omega (arith, h, values-ground k cs ds vs qs ss held short b refl refl refl refl refl e f l))
-      go false false false true s e f l g i = absurd (omega (arith, h, third-ground k cs ds vs qs ss held short b refl refl refl refl refl e f l g))
-      go false false false false true e f l g i = absurd (omega (arith, h, fourth_ground k cs ds vs qs ss held short b refl refl refl refl refl e f l g i))
+      go true q v r s e f l g i = absurd (none-ne-some _ (h ∙ sym (first-ground k cs ds vs qs ss held short b refl refl refl refl refl e)))
+      go false true v r s e f l g i = absurd (none-ne-some _ (h ∙ sym (second-ground k cs ds vs qs ss held short b refl refl refl refl refl e f)))
+      go false false true r s e f l g i = absurd (none-ne-some _ (h ∙ sym (values-ground k cs ds vs qs ss held short b refl refl refl refl refl e f l)))
+      go false false false true s e f l g i = absurd (none-ne-some _ (h ∙ sym (third-ground k cs ds vs qs ss held short b refl refl refl refl refl e f l g)))
+      go false false false false true e f l g i = absurd (none-ne-some _ (h ∙ sym (fourth_ground k cs ds vs qs ss held short b refl refl refl refl refl e f l g i)))
       go false false false false false e f l g i = record { count = e; list = f; values = l; queue = g; store = i }
 
   pub fit : first_given (host_grounds k b held short) ≡ none

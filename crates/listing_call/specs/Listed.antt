@@ -1,5 +1,5 @@
 -- What the listing calls of both editions share: the run of an accepted sheet, with its figures yet to be filled in, or a refusal. Assumes nothing: these are definitions.
-use Rattle.std.specs.Prelude.{◌≡◌, Bool, List, ℕ, ◌/◌, length}
+use Rattle.std.specs.Prelude.{◌≡◌, Bool, List, ℕ, ◌/◌, length, Result, Ok, Err}
 use Rattle.std.proofs.Math.Option.{none}
 use Rattle.model.specs.Sheet.{Plant, got, edition_of, read_sheet}
 use Rattle.model.specs.Order.{order_of}
@@ -35,6 +35,6 @@ pub record RanOn (w : Bool) (sheet : List ℕ) (k held limit : ℕ) (short : Boo
       (listing plant (order_of (edition_of w) plant) k (length queue / 2) (length store / 2) (offers_of held store) limit)
 
 -- what `list_codes` answers
-abbrev pub ListedOn : (w : Bool) (sheet : List ℕ) (k held limit : ℕ) (short : Bool) (figures : ℕ) (codes values queue store codes' values' queue' store' prices : List ℕ) → Listed → Type 0
-ListedOn w sheet k held limit short figures codes values queue store codes' values' queue' store' prices (Listed.Refused r) = RefusedOn w sheet k held limit short figures codes values queue store codes' values' queue' store' r
-ListedOn w sheet k held limit short figures codes values queue store codes' values' queue' store' prices (Listed.Ran d r) = RanOn w sheet k held limit short figures codes values queue store codes' values' queue' store' prices d r
+abbrev pub ListedOn : (w : Bool) (sheet : List ℕ) (k held limit : ℕ) (short : Bool) (figures : ℕ) (codes values queue store codes' values' queue' store' prices : List ℕ) → Result Listed Refusal → Type 0
+ListedOn w sheet k held limit short figures codes values queue store codes' values' queue' store' prices (Err r) = RefusedOn w sheet k held limit short figures codes values queue store codes' values' queue' store' r
+ListedOn w sheet k held limit short figures codes values queue store codes' values' queue' store' prices (Ok l) = RanOn w sheet k held limit short figures codes values queue store codes' values' queue' store' prices l.decisions l.ran

@@ -6,19 +6,19 @@ ghost use Rattle.std.specs.Prelude.{◌≡◌, length};
 ghost use Rattle.model.specs.Sheet.{edition1};
 ghost use Rattle.model.specs.Calls.{Buffers, first_given, host_grounds, listing_with, listing_call};
 ghost use Rattle.readings.specs.Lengths.{cost_entries};
-ghost use Rattle.refusal.specs.Refusal.{ground_number};
+ghost use Rattle.refusal.specs.Refusal.{host_found};
 ghost use Rattle.listing.specs.Listing.{buffers, answer_of, CalledAs};
 ghost use Rattle.listing_call.specs.Calls.{shown, Promises};
 ghost use Rattle.listing_call.specs.Listed.{ListedOn};
 
 use figures::fill_costs;
 use limits::{MOST_LISTED, MOST_WORDS, STATE_BYTES};
-use listing::{Answer, Ran, list_tables};
-use refusal::Refusal;
+use listing::{Ran, list_tables};
+use refusal::{HostGround, Refusal};
 use sheet::{COST_ENTRIES, COUNT_ENTRIES, LITERAL_BYTES, SIZE_ENTRIES};
 
-// The number of the first ground on which the host's numbers are refused, or 0; `short`: the export has fewer than six result words.
-fn unfit(
+// The first ground on which the host's numbers are refused, if there is one; `short`: the export has fewer than six result words.
+fn fit(
     k: u32,
     codes: usize,
     costs: usize,
@@ -27,37 +27,36 @@ fn unfit(
     store: usize,
     held: usize,
     short: bool,
-) -> u32
-    ensures { (b : Buffers) → length b.codes ≡ codes → length b.costs ≡ costs → length b.values ≡ values → length b.queue ≡ queue → length b.store ≡ store → result ≡ ground_number (first_given (host_grounds k b held short)) }
+) -> Result<(), HostGround>
+    ensures { (b : Buffers) → length b.codes ≡ codes → length b.costs ≡ costs → length b.values ≡ values → length b.queue ≡ queue → length b.store ≡ store → host_found result ≡ first_given (host_grounds k b held short) }
 {
     if !((1 <= k) & (k <= MOST_LISTED)) {
-        return 1;
+        return Err(HostGround::BadK);
     }
     let wanted = k as usize;
     let short_list = (codes < wanted) | (costs < wanted) | short;
     let short_values = values < STATE_BYTES * wanted;
     let wrong_queue = (queue % 2 == 1) | (queue < 2) | (queue > MOST_WORDS);
     if short_list {
-        return 2;
+        return Err(HostGround::BadOutput);
     }
     if short_values {
-        return 19;
+        return Err(HostGround::BadValuesRoom);
     }
     if wrong_queue {
-        return 3;
+        return Err(HostGround::BadQueue);
     }
     if (store % 2 == 1) | (store > MOST_WORDS) | (store / 2 < held) {
-        return 4;
+        return Err(HostGround::BadStore);
     }
-    0
+    Ok(())
 }
 
-// What the calls of both editions share: a refusal, which says whose, or the number of decision variables and the run, with
-// its figures yet to be filled in.
+// What the calls of both editions share: the number of decision variables and the run, with its figures yet to be filled in.
 #[derive(Clone, Copy)]
-pub enum Listed {
-    Refused(Refusal),
-    Ran(usize, Ran),
+pub struct Listed {
+    pub decisions: usize,
+    pub ran: Ran,
 }
 
 // Lists the codes of the sheet's leading states, for either edition: the host's refusals, with `figures` places for figures
@@ -75,12 +74,12 @@ pub fn list_codes(
     limit: u32,
     short: bool,
     prices: &mut [u16],
-) -> Listed
+) -> Result<Listed, Refusal>
     requires { length prices.old ≡ cost_entries }
     ensures { ListedOn weighed sheet.now k held limit short figures codes.old values.old queue.old store.old
         codes.new values.new queue.new store.new prices.new result }
 {
-    let ground = unfit(
+    fit(
         k,
         codes.len(),
         figures,
@@ -89,35 +88,29 @@ pub fn list_codes(
         store.len(),
         held,
         short,
-    );
-    if ground != 0 {
-        return Listed::Refused(Refusal::Host(ground));
-    }
+    )?;
     let mut sizes = [0u8; SIZE_ENTRIES];
     let mut counts = [0u8; COUNT_ENTRIES];
     let mut lits = [0u8; LITERAL_BYTES];
-    match sheet::read(sheet, weighed, &mut sizes, prices, &mut counts, &mut lits) {
-        sheet::Answer::Refused(n) => Listed::Refused(Refusal::Author(n)),
-        sheet::Answer::Counts(d, s, c) => {
-            let n = d + s;
-            let ran = list_tables(
-                d,
-                &sizes[..n],
-                prices,
-                &counts[..c],
-                &lits,
-                weighed,
-                codes,
-                values,
-                queue,
-                store,
-                k,
-                held,
-                limit,
-            );
-            Listed::Ran(d, ran)
-        }
-    }
+    let numbers = sheet::read(sheet, weighed, &mut sizes, prices, &mut counts, &mut lits)?;
+    let decisions = numbers.decisions;
+    let variables = decisions + numbers.states;
+    let ran = list_tables(
+        decisions,
+        &sizes[..variables],
+        prices,
+        &counts[..numbers.clauses],
+        &lits,
+        weighed,
+        codes,
+        values,
+        queue,
+        store,
+        k,
+        held,
+        limit,
+    );
+    Ok(Listed { decisions, ran })
 }
 
 // The listing call, with `short` as above.
@@ -132,12 +125,12 @@ pub fn list_with(
     held: usize,
     limit: u32,
     short: bool,
-) -> Answer
+) -> Result<Ran, Refusal>
     ensures { CalledAs result (buffers codes.new costs.new values.new queue.new store.new)
         (listing_with edition1 sheet.now k (buffers codes.old costs.old values.old queue.old store.old) held limit short) }
 {
     let mut prices = [0u16; COST_ENTRIES];
-    match list_codes(
+    let listed = list_codes(
         sheet,
         false,
         k,
@@ -150,15 +143,16 @@ pub fn list_with(
         limit,
         short,
         &mut prices,
-    ) {
-        Listed::Refused(r) => Answer::Refused(r),
-        Listed::Ran(d, ran) => {
-            let ending = ran.ending;
-            let counts = ran.counts;
-            fill_costs(costs, codes, counts.listed as usize, &prices, d);
-            Answer::Ran(ending, counts)
-        }
-    }
+    )?;
+    let ran = listed.ran;
+    fill_costs(
+        costs,
+        codes,
+        ran.counts.listed as usize,
+        &prices,
+        listed.decisions,
+    );
+    Ok(ran)
 }
 
 // The listing call: the leading states of the sheet's plant go to codes, costs and values.
@@ -172,7 +166,7 @@ pub fn list(
     store: &mut [u64],
     held: usize,
     limit: u32,
-) -> Answer
+) -> Result<Ran, Refusal>
     ensures { (let before : Buffers = buffers codes.old costs.old values.old queue.old store.old in
         let after : Buffers = buffers codes.new costs.new values.new queue.new store.new in
         (shown (listing_call sheet.now k before held limit) ≡ (answer_of result, after)) × Promises sheet.now k before held limit result after) }

@@ -22,7 +22,12 @@ use Rattle.theory.proofs.Words.{well_formed-valid, well_formed-words}
 use Rattle.store.specs.Store.{Keeps}
 use Rattle.store.proofs.Entries.{from-entry}
 use Rattle.store.proofs.Callers.{keeps-none}
+use Rattle.trials.specs.declared.Answer.{Answer}
+use Rattle.trials.specs.Answers.{answer_of, leaves, Ended}
+use Rattle.conflict.specs.Given.{ForWords}
+use Rattle.conflict.proofs.Given.{as_ended}
 use Rattle.conflict.specs.Reduced.{Held}
+use Rattle.std.specs.Prelude.{Ok, Err}
 use Rattle.offers.specs.declared.Offered.{Offered}
 use Rattle.offers.specs.Offers.{offers_from, CheckedOne, OfferedAs}
 
@@ -65,6 +70,12 @@ module _ {p : Plant} {d : ℕ} {sizes prices counts lits : List ℕ} (t : Tabled
         valid = well_formed-valid (decision_sizes p) mask values w;
       }
 
+  -- a test of the two words is the model's test of that assignment
+  pub offer-ended : (limit used mask values : ℕ) {r : Answer} → well_formed (take d sizes) mask values ≡ true → mask < 2 ^ 64 → values < 2 ^ 64
+      → ForWords d sizes counts lits mask values (λ p a. r ≡ answer_of (test p limit a used))
+      → Ended (test p limit (assignment_of (length p.costs) mask values) used) [] (leaves [] (test p limit (assignment_of (length p.costs) mask values) used)) r
+  offer-ended limit used mask values e fm fv answer = let h = offer_held mask values e fm fv in as_ended (answer p prices t _ h.words h.valid)
+
   module _ (limit held i : ℕ) (before : List ℕ) (found : List Assignment) (used m mask values : ℕ)
       (within : i < held) (room : 2 * held ≤ length before) (em : mask ≡ get_or before (2 * i) 0) (ev : values ≡ get_or before (2 * i + 1) 0)
       (long : Long (length p.costs) found) (keeps : Keeps (length p.costs) before m (survivors_of found)) (few : m ≤ i) where
@@ -76,7 +87,7 @@ module _ {p : Plant} {d : ℕ} {sizes prices counts lits : List ℕ} (t : Tabled
     next = offers-step held before i room within em ev
 
     -- the entry is not well formed
-    pub check_malformed : well_formed (take d sizes) mask values ≡ false → CheckedOne p limit held i found used before before (Offered.Checked m used)
+    pub check_malformed : well_formed (take d sizes) mask values ≡ false → CheckedOne p limit held i found used before before (Ok (record { survivors = m; trials = used }))
     unfolding check_offers
     check_malformed e =
         let w : well_formed (decision_sizes p) mask values ≡ false = rw (tabled-decisions t) e in
@@ -87,19 +98,19 @@ module _ {p : Plant} {d : ℕ} {sizes prices counts lits : List ℕ} (t : Tabled
       w = rw (tabled-decisions t) e
 
       -- it is consistent
-      pub check_consistent : {f : List ℕ} {u : ℕ} → test p limit entry used ≡ consistent f u → CheckedOne p limit held i found used before before (Offered.Checked m u)
+      pub check_consistent : {f : List ℕ} {u : ℕ} → test p limit entry used ≡ consistent f u → CheckedOne p limit held i found used before before (Ok (record { survivors = m; trials = u }))
       unfolding check_offers
       check_consistent q = (found, long, keeps, rw (next, check_offers, w, q))
 
       -- the limit struck
-      pub check_spent : {u : ℕ} → test p limit entry used ≡ spent u → CheckedOne p limit held i found used before before (Offered.BrokenOff m u)
+      pub check_spent : {u : ℕ} → test p limit entry used ≡ spent u → CheckedOne p limit held i found used before before (Err (record { survivors = m; trials = u }))
       unfolding check_offers
       check_spent q = (keeps, rw (next, check_offers, w, q))
 
       -- it is found inconsistent: what it makes of the survivors is what one found more makes of them
       pub check_inconsistent : {u n : ℕ} (after : List ℕ) → length entry ≡ length p.costs → test p limit entry used ≡ inconsistent u
           → (Pairs Neither (survivors_of found) → Keeps (length p.costs) after n (admitted (survivors_of found) entry))
-          → drop (2 * m + 2) after ≡ drop (2 * m + 2) before → CheckedOne p limit held i found used before after (Offered.Checked n u)
+          → drop (2 * m + 2) after ≡ drop (2 * m + 2) before → CheckedOne p limit held i found used before after (Ok (record { survivors = n; trials = u }))
       unfolding check_offers
       check_inconsistent {u} after l q k s =
           let e : offers_from held after (i + 1) ≡ offers_from held before (i + 1) = offers-kept held before after m i few s in
@@ -113,28 +124,23 @@ module _ {p : Plant} {d : ℕ} {sizes prices counts lits : List ℕ} (t : Tabled
 -- ---- the loop
 
 -- so many entries have been checked: the store keeps the survivors of those found inconsistent, and the check goes on behind them
-pub record CheckedTo (p : Plant) (limit held : ℕ) (start : List ℕ) (i : ℕ) (store : List ℕ) (m used : ℕ) : Type 0 where
+pub record CheckedTo (p : Plant) (limit held : ℕ) (start : List ℕ) (i : ℕ) (store : List ℕ) (o : Offered) : Type 0 where
   pub found : List Assignment
   pub long : Long (length p.costs) found
-  pub keeps : Keeps (length p.costs) store m (survivors_of found)
-  pub same : check_offers p limit [] (offers_of held start) 0 ≡ check_offers p limit found (offers_from held store i) used
+  pub keeps : Keeps (length p.costs) store o.survivors (survivors_of found)
+  pub same : check_offers p limit [] (offers_of held start) 0 ≡ check_offers p limit found (offers_from held store i) o.trials
 
 module _ {p : Plant} {limit held : ℕ} {start : List ℕ} where
-  pub checked-start : length p.costs ≤ 16 → CheckedTo p limit held start 0 start 0 0
+  pub checked-start : length p.costs ≤ 16 → CheckedTo p limit held start 0 start (record { survivors = 0; trials = 0 })
   checked-start h = record { found = []; long = tt; keeps = keeps-none (length p.costs) start h; same = rw (offers-start held start) }
 
-  module _ {i : ℕ} {store : List ℕ} {m used : ℕ} (h : CheckedTo p limit held start i store m used) where
-    pub checked-next : {after : List ℕ} {n u : ℕ} {r : Offered} → r ≡ Offered.Checked n u → CheckedOne p limit held i h.found used store after r → CheckedTo p limit held start (i + 1) after n u
-    checked-next {after} {n} {u} {r} e one =
-        let o : CheckedOne p limit held i h.found used store after (Offered.Checked n u) = rw e at one in
-        record { found = o.0; long = o.1; keeps = o.2; same = h.same ∙ o.3 }
+  module _ {i : ℕ} {store : List ℕ} {o : Offered} (h : CheckedTo p limit held start i store o) where
+    pub checked-next : {after : List ℕ} {next : Offered} → CheckedOne p limit held i h.found o.trials store after (Ok next) → CheckedTo p limit held start (i + 1) after next
+    checked-next one = record { found = one.0; long = one.1; keeps = one.2; same = h.same ∙ one.3 }
 
-    pub checked_broken : {after : List ℕ} {n u : ℕ} {r : Offered} → r ≡ Offered.BrokenOff n u → CheckedOne p limit held i h.found used store after r
-        → OfferedAs p after (Offered.BrokenOff n u) (check_offers p limit [] (offers_of held start) 0)
-    checked_broken {after} {n} {u} {r} e one =
-        let o : CheckedOne p limit held i h.found used store after (Offered.BrokenOff n u) = rw e at one in
-        (survivors_of h.found, o.0, h.same ∙ o.1)
+    pub checked_broken : {after : List ℕ} {next : Offered} → CheckedOne p limit held i h.found o.trials store after (Err next) → OfferedAs p after (Err next) (check_offers p limit [] (offers_of held start) 0)
+    checked_broken one = (survivors_of h.found, one.0, h.same ∙ one.1)
 
-    pub checked-end : held ≤ i → OfferedAs p store (Offered.Checked m used) (check_offers p limit [] (offers_of held start) 0)
+    pub checked-end : held ≤ i → OfferedAs p store (Ok o) (check_offers p limit [] (offers_of held start) 0)
     unfolding check_offers
     checked-end l = (survivors_of h.found, h.keeps, h.same ∙ rw (offers-end held store i l))

@@ -8,92 +8,78 @@ ghost use Rattle.model.specs.Listing.{survivors_of, check_offers};
 ghost use Rattle.model.specs.Calls.{offers_of};
 ghost use Rattle.theory.specs.Store.{Long};
 ghost use Rattle.store.specs.Store.{Keeps};
-ghost use Rattle.conflict.specs.Given.{Ready, ForPlant};
+ghost use Rattle.conflict.specs.Given.{ReadyFor, ForPlantOf};
 ghost use Rattle.plan.specs.Plans.{plan_words};
 ghost use Rattle.offers.specs.Offers.{CheckedOne, OneMore, OfferedAs};
 
-use clauses::sets::Sat;
+use clauses::tables::Decoded;
 use conflict::tests::tested;
 use plan::Plan;
 use trials::Answer;
 
-// How many entries survive, with the trials made: all were checked, or the limit struck before.
-#[derive(Clone, Copy)]
-pub enum Offered {
-    Checked(usize, u32),
-    BrokenOff(usize, u32),
+// How many entries survive, with the trials made.
+#[derive(Clone, Copy, Debug, PartialEq, Eq)]
+pub struct Offered {
+    pub survivors: usize,
+    pub trials: u32,
 }
 
-// Checks the entry at place i behind m survivors: it is admitted among them if it is well formed and a test finds it inconsistent.
+// Checks the entry at place i behind the survivors so far: it is admitted among them if it is well formed and a test finds
+// it inconsistent. `Err` if the limit strikes.
 fn check(
-    d: usize,
-    sizes: &[u8],
-    counts: &[u8],
-    lits: &[u8],
-    sat: &Sat,
-    uses: &[u64],
+    plant: &Decoded,
     plan: &mut Plan,
     store: &mut [u64],
     i: usize,
-    m: usize,
-    used: u32,
+    so_far: Offered,
     limit: u32,
-) -> Offered
-    requires { Ready d sizes.now counts.now lits.now sat.now uses.now plan.old × (2 * i + 2 ≤ length store.old) × (m ≤ i) }
-    ensures few { OneMore m result }
-    ensures one { ForPlant d sizes.now counts.now lits.now (λ p. (held : ℕ) (found : List Assignment) → i < held → 2 * held ≤ length store.old
-        → Long (length p.costs) found → Keeps (length p.costs) store.old m (survivors_of found) → CheckedOne p limit held i found used store.old store.new result) }
+) -> Result<Offered, Offered>
+    requires { ReadyFor plant.now plan.old × (2 * i + 2 ≤ length store.old) × (so_far.survivors ≤ i) }
+    ensures few { OneMore so_far.survivors result }
+    ensures one { ForPlantOf plant.now (λ p. (held : ℕ) (found : List Assignment) → i < held → 2 * held ≤ length store.old
+        → Long (length p.costs) found → Keeps (length p.costs) store.old so_far.survivors (survivors_of found)
+        → CheckedOne p limit held i found so_far.trials store.old store.new result) }
     ensures long { length plan.new ≡ plan_words }
 {
     let e = store::entry_at(store, i);
-    if !words::well_formed(e.mask, e.values, sizes, d) {
-        return Offered::Checked(m, used);
+    if !words::well_formed(e.mask, e.values, plant.sizes, plant.decisions) {
+        return Ok(so_far);
     }
-    match tested(
-        d, sizes, counts, lits, sat, uses, plan, e.mask, e.values, used, limit,
-    ) {
-        Answer::Consistent(t) => Offered::Checked(m, t),
-        Answer::Spent(t) => Offered::BrokenOff(m, t),
-        Answer::Inconsistent(t) => {
+    let m = so_far.survivors;
+    match tested(plant, plan, e.mask, e.values, so_far.trials, limit) {
+        Answer::Consistent(trials) => Ok(Offered {
+            survivors: m,
+            trials,
+        }),
+        Answer::Spent(trials) => Err(Offered {
+            survivors: m,
+            trials,
+        }),
+        Answer::Inconsistent(trials) => {
             let survivors = subsumption::admit(store, m, e.mask, e.values);
-            Offered::Checked(survivors, t)
+            Ok(Offered { survivors, trials })
         }
     }
 }
 
-// Checks the first `held` entries.
+// Checks the first `held` entries. `Err` if the limit strikes before the last.
 pub fn check_all(
-    d: usize,
-    sizes: &[u8],
-    counts: &[u8],
-    lits: &[u8],
-    sat: &Sat,
-    uses: &[u64],
+    plant: &Decoded,
     plan: &mut Plan,
     store: &mut [u64],
     held: usize,
     limit: u32,
-) -> Offered
-    requires { Ready d sizes.now counts.now lits.now sat.now uses.now plan.old × (2 * held ≤ length store.old) }
-    ensures answer { ForPlant d sizes.now counts.now lits.now (λ p. OfferedAs p store.new result (check_offers p limit [] (offers_of held store.old) 0)) }
+) -> Result<Offered, Offered>
+    requires { ReadyFor plant.now plan.old × (2 * held ≤ length store.old) }
+    ensures answer { ForPlantOf plant.now (λ p. OfferedAs p store.new result (check_offers p limit [] (offers_of held store.old) 0)) }
     ensures long { length plan.new ≡ plan_words }
 {
-    let mut m = 0;
-    let mut used: u32 = 0;
-    let mut i = 0;
-    while i < held {
-        match check(
-            d, sizes, counts, lits, sat, uses, plan, store, i, m, used, limit,
-        ) {
-            Offered::BrokenOff(n, t) => {
-                return Offered::BrokenOff(n, t);
-            }
-            Offered::Checked(n, t) => {
-                m = n;
-                used = t;
-            }
-        }
-        i += 1;
+    let mut offered = Offered {
+        survivors: 0,
+        trials: 0,
+    };
+    for i in 0..held {
+        offered = check(plant, plan, store, i, offered, limit)?;
     }
-    Offered::Checked(m, used)
+    Ok(offered)
 }

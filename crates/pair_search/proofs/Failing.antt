@@ -49,8 +49,8 @@ module _ (sat plan : List ℕ) (first second v left : ℕ) (below : v < variable
       → (inOther : ℕ → Bool) → Alike (needed plan v) (in_pair first second) inOther → Finds sat plan inOther v left plan (Inconsistent (left - known))
   unfolding told afterwards
   recalled_again known n c h l inOther a sizes vals used limit p e cs s =
-      let y = c.noted_here (omega arith) in
-      let d = alike_recalled c (omega arith) in
+      let y = c.noted_here in
+      let d = alike_recalled c in
       let g = (s.known.right v (before-end sizes vals plan v p n) (omega arith)).says vals inOther used limit p (stands_same (same_refl plan) sat (omega (arith, p.bytes.few, p.bytes.same)) tt s)
       record { same = λ k b i. a.same k b i ∙ d.same k b i } (omega arith) in
       let z : used + (left - (left - known)) ≡ used + trials_then plan v = omega arith in

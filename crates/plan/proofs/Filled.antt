@@ -11,7 +11,7 @@ use lib.ListN.{length, get_or, set, length-set}
 use lib.Seq.{get_or-set_same, get_or-set_other}
 use Rattle.clauses.specs.Numbers.{values, unassigned}
 use Rattle.trials.specs.declared.Answer.{Answer}
-use Rattle.trials.specs.declared.Answer.TheVariants.{Consistent, Inconsistent, Spent}
+use Rattle.trials.specs.declared.Answer.TheVariants.{Consistent}
 use Rattle.trials.specs.Answers.{told}
 use Rattle.plan.specs.Plans.{row_at, filled_from, afterwards}
 
@@ -126,15 +126,13 @@ told-afterwards used left vals plan (Answer.Inconsistent t) = refl
 told-afterwards used left vals plan (Answer.Spent t) = refl
 
 -- what becomes of the bytes
-module _ (vals plan : List ℕ) (t : ℕ) (r : Answer) where
-  pub after-consistent : r ≡ Consistent t → afterwards vals plan r ≡ filled_from vals plan 0
+module _ (vals plan : List ℕ) where
+  pub after-consistent : (t : ℕ) (r : Answer) → r ≡ Consistent t → afterwards vals plan r ≡ filled_from vals plan 0
   unfolding afterwards
-  after-consistent e = rw e
+  after-consistent t r e = rw e
 
-  pub after-inconsistent : r ≡ Inconsistent t → afterwards vals plan r ≡ vals
+  pub after-none : (r : Answer) → ((t : ℕ) → r ≡ Consistent t → ⊥) → afterwards vals plan r ≡ vals
   unfolding afterwards
-  after-inconsistent e = rw e
-
-  pub after-spent : r ≡ Spent t → afterwards vals plan r ≡ vals
-  unfolding afterwards
-  after-spent e = rw e
+  after-none (Answer.Consistent t) d = absurd (d t refl)
+  after-none (Answer.Inconsistent t) d = refl
+  after-none (Answer.Spent t) d = refl

@@ -71,10 +71,10 @@ pair-cut needs1 needs2 first second c h e = elim (dec_lt c 64) [
 ]
 
 -- what is recalled is of a set that is alike
-pub alike_recalled : {plan : List ℕ} {v first second r : ℕ} → Recalled plan v first second r → r < none_noted → Alike (needed plan v) (had_then plan v) (in_pair first second)
-alike_recalled {plan} {v} {first} {second} c h = record {
+pub alike_recalled : {plan : List ℕ} {v first second t : ℕ} → Recalled plan v first second t → Alike (needed plan v) (had_then plan v) (in_pair first second)
+alike_recalled {plan} {v} {first} {second} c = record {
   same = λ k l e.
-      sym (had_words plan v k l ∙ rw (← c.first-same h, ← c.second-same h) (pair-cut (get_or plan (note_at v) 0) (get_or plan (note_at v + 1) 0) first second k l (sym (needed-words plan v k l) ∙ e)));
+      sym (had_words plan v k l ∙ rw (← c.first-same, ← c.second-same) (pair-cut (get_or plan (note_at v) 0) (get_or plan (note_at v + 1) 0) first second k l (sym (needed-words plan v k l) ∙ e)));
 }
 
 module _ (plan : List ℕ) (v needs1 needs2 had1 had2 t : ℕ) where

@@ -106,11 +106,11 @@ pub record Refuted (cs : List (List Literal)) (sizes sat plan : List ℕ) (v : �
 pub record Knows (sizes sat plan : List ℕ) (cs : List (List Literal)) : Type 0 where
   pub right : (v : ℕ) → v < length sizes → trials_then plan v < none_noted → Refuted cs sizes sat plan v (needed plan v) (had_then plan v) (trials_then plan v)
 
--- r trials are those noted at v, if they are fewer than `none_noted`, and the needed clauses are satisfied as then
-pub record Recalled (plan : List ℕ) (v first second r : ℕ) : Type 0 where
-  pub noted_here : r < none_noted → r ≡ trials_then plan v
-  pub first-same : r < none_noted → bit_and (get_or plan (note_at v) 0) first ≡ get_or plan (note_at v + 2) 0
-  pub second-same : r < none_noted → bit_and (get_or plan (note_at v + 1) 0) second ≡ get_or plan (note_at v + 3) 0
+-- t trials are those noted at v, and the needed clauses are satisfied as then
+pub record Recalled (plan : List ℕ) (v first second t : ℕ) : Type 0 where
+  pub noted_here : t ≡ trials_then plan v
+  pub first-same : bit_and (get_or plan (note_at v) 0) first ≡ get_or plan (note_at v + 2) 0
+  pub second-same : bit_and (get_or plan (note_at v + 1) 0) second ≡ get_or plan (note_at v + 3) 0
 
 -- the plan with this noted at v
 abbrev pub noted : List ℕ → ℕ → ℕ → ℕ → ℕ → ℕ → ℕ → List ℕ

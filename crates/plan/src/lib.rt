@@ -5,15 +5,16 @@
 // how many trials it took. Where it comes to the variable again with the same ones satisfied, it would find none by as many.
 #![tactic(auto)]
 
-ghost use Rattle.std.specs.Prelude.{◌≡◌, ◌+◌, ◌*◌, ◌<◌, ◌≤◌, length};
+ghost use Rattle.std.specs.Prelude.{◌≡◌, ◌+◌, ◌*◌, ◌<◌, ◌≤◌, IfSome, length};
 ghost use Rattle.std.specs.Int.Bits.{bit_and};
 ghost use Rattle.clauses.specs.Numbers.{variables, pair_clauses};
-ghost use Rattle.clauses.specs.Sets.{in_pair, Within};
+ghost use Rattle.clauses.specs.Pairs.{of_pair};
+ghost use Rattle.clauses.specs.Sets.{Within};
 ghost use Rattle.trials.specs.Searches.{Lent};
 ghost use Rattle.plan.specs.Plans.{plan_words, row_words, in_plan, Planned, Recalled, noted, filled_from, afterwards};
 
-use clauses::sets::{SET_WORDS, Sat};
-use limits::{UNASSIGNED, VALUES, VARIABLES, wide};
+use clauses::sets::{PairSet, SET_WORDS, Sat};
+use limits::{UNASSIGNED, VALUES, VARIABLES};
 use trials::{Answer, TRIALS_BELOW};
 
 // The words of a row.
@@ -39,10 +40,8 @@ pub const NONE_NOTED: u64 = TRIALS_BELOW;
 // What is made of the variables from one on: the clauses that they satisfy, the clauses that one of them leaves open, and the first unassigned one.
 #[derive(Clone, Copy)]
 pub struct Sets {
-    pub held1: u64,
-    pub held2: u64,
-    pub open1: u64,
-    pub open2: u64,
+    pub held: PairSet,
+    pub open: PairSet,
     pub next: usize,
 }
 
@@ -57,29 +56,27 @@ fn taken_in(
     v: usize,
 ) -> Sets
     requires { Lent plan_words vals.now sat.now uses.now plan.old × (v < length vals.now) × (length vals.now ≡ length sizes.now) }
-    ensures { Planned sizes.now vals.now sat.now uses.now plan.old s.next (in_pair s.held1 s.held2) (in_pair s.open1 s.open2) (v + 1)
-        → Planned sizes.now vals.now sat.now uses.now plan.new result.next (in_pair result.held1 result.held2) (in_pair result.open1 result.open2) v }
+    ensures { Planned sizes.now vals.now sat.now uses.now plan.old s.next (of_pair s.held) (of_pair s.open) (v + 1)
+        → Planned sizes.now vals.now sat.now uses.now plan.new result.next (of_pair result.held) (of_pair result.open) v }
 {
     plan[NOTES_BEGIN + v * NOTE_WORDS + 4] = NONE_NOTED;
     let a = vals[v];
     if a == UNASSIGNED {
-        let first = uses[v * SET_WORDS];
-        let second = uses[v * SET_WORDS + 1];
-        plan[v * ROW_WORDS] = sizes[v] as u64;
+        let mentions = PairSet::at(uses, v * SET_WORDS);
+        let due = mentions.without(s.open);
+        plan[v * ROW_WORDS] = u64::from(sizes[v]);
         plan[v * ROW_WORDS + 1] = s.next as u64;
-        plan[v * ROW_WORDS + 2] = first ^ (first & s.open1);
-        plan[v * ROW_WORDS + 3] = second ^ (second & s.open2);
+        plan[v * ROW_WORDS + 2] = due.first;
+        plan[v * ROW_WORDS + 3] = due.second;
         return Sets {
-            open1: s.open1 | first,
-            open2: s.open2 | second,
+            open: s.open.with(mentions),
             next: v,
             ..s
         };
     }
-    let row = v * VALUES + wide(a);
+    let row = v * VALUES + usize::from(a);
     Sets {
-        held1: s.held1 | sat[row * SET_WORDS],
-        held2: s.held2 | sat[row * SET_WORDS + 1],
+        held: s.held.with(PairSet::at(sat, row * SET_WORDS)),
         ..s
     }
 }
@@ -87,75 +84,60 @@ fn taken_in(
 // Makes the plan, from the last variable to the first.
 pub fn start(sizes: &[u8], vals: &[u8], sat: &Sat, uses: &[u64], plan: &mut Plan) -> Sets
     requires { Lent plan_words vals.now sat.now uses.now plan.old × (length vals.now ≡ length sizes.now) × (length plan.old ≡ plan_words) }
-    ensures { Planned sizes.now vals.now sat.now uses.now plan.new result.next (in_pair result.held1 result.held2) (in_pair result.open1 result.open2) 0 }
+    ensures { Planned sizes.now vals.now sat.now uses.now plan.new result.next (of_pair result.held) (of_pair result.open) 0 }
 {
-    let mut v = vals.len();
-    plan[COUNT_PLACE] = v as u64;
+    plan[COUNT_PLACE] = vals.len() as u64;
     let mut s = Sets {
-        held1: 0,
-        held2: 0,
-        open1: 0,
-        open2: 0,
-        next: v,
+        held: PairSet::EMPTY,
+        open: PairSet::EMPTY,
+        next: vals.len(),
     };
-    while v > 0 {
-        v -= 1;
+    for v in (0..vals.len()).rev() {
         s = taken_in(s, sizes, vals, sat, uses, plan, v);
     }
     s
 }
 
-// Whether each clause due at v is in the set of the two words.
-pub fn covered(plan: &[u64], v: usize, first: u64, second: u64) -> bool
+// Whether each clause due at v is in the set.
+pub fn covered(plan: &[u64], v: usize, set: PairSet) -> bool
     requires { v * row_words + row_words ≤ length plan.now }
-    ensures { Within pair_clauses (in_plan plan.now v) (in_pair first second) result }
+    ensures { Within pair_clauses (in_plan plan.now v) (of_pair set) result }
 {
     let due = plan[v * ROW_WORDS + 2];
-    if due & first != due {
+    if due & set.first != due {
         return false;
     }
     let more = plan[v * ROW_WORDS + 3];
-    more & second == more
+    more & set.second == more
 }
 
-// The trials by which the search found no values from v on when the clauses that it went by were satisfied as now, or NONE_NOTED.
-pub fn recall(plan: &Plan, v: usize, first: u64, second: u64) -> u64
+// The trials by which the search found no values from v on when the clauses that it went by were satisfied as now.
+pub fn recall(plan: &Plan, v: usize, set: PairSet) -> Option<u32>
     requires { v < variables }
-    ensures { Recalled plan.now v first second result }
+    ensures { IfSome result (λ trials. Recalled plan.now v set.first set.second trials) }
 {
     let at = NOTES_BEGIN + v * NOTE_WORDS;
-    let trials = plan[at + 4];
-    if trials == NONE_NOTED {
-        return NONE_NOTED;
+    let trials = u32::try_from(plan[at + 4]).ok()?;
+    if plan[at] & set.first != plan[at + 2] {
+        return None;
     }
-    if plan[at] & first != plan[at + 2] {
-        return NONE_NOTED;
+    if plan[at + 1] & set.second != plan[at + 3] {
+        return None;
     }
-    if plan[at + 1] & second != plan[at + 3] {
-        return NONE_NOTED;
-    }
-    trials
+    Some(trials)
 }
 
-// Notes that the search found no values from v on, by so many trials, going by the clauses of the first two words.
-pub fn note(
-    plan: &mut Plan,
-    v: usize,
-    needs1: u64,
-    needs2: u64,
-    first: u64,
-    second: u64,
-    trials: u32,
-)
+// Notes that the search found no values from v on, by so many trials, going by the needed clauses of the set.
+pub fn note(plan: &mut Plan, v: usize, needs: PairSet, set: PairSet, trials: u32)
     requires { v < variables }
-    ensures { plan.new ≡ noted plan.old v needs1 needs2 (bit_and needs1 first) (bit_and needs2 second) trials }
+    ensures { plan.new ≡ noted plan.old v needs.first needs.second (bit_and needs.first set.first) (bit_and needs.second set.second) trials }
 {
     let at = NOTES_BEGIN + v * NOTE_WORDS;
-    plan[at] = needs1;
-    plan[at + 1] = needs2;
-    plan[at + 2] = needs1 & first;
-    plan[at + 3] = needs2 & second;
-    plan[at + 4] = trials as u64;
+    plan[at] = needs.first;
+    plan[at + 1] = needs.second;
+    plan[at + 2] = needs.first & set.first;
+    plan[at + 3] = needs.second & set.second;
+    plan[at + 4] = u64::from(trials);
 }
 
 // Takes over the values that the plan notes for the unassigned variables.
@@ -163,12 +145,10 @@ fn fill(vals: &mut [u8], plan: &Plan)
     requires { length vals.old ≤ variables }
     ensures { vals.new ≡ filled_from vals.old plan.now 0 }
 {
-    let mut v = 0;
-    while v < vals.len() {
-        if vals[v] == UNASSIGNED {
-            vals[v] = (plan[v * ROW_WORDS] % 256) as u8;
+    for (v, value) in vals.iter_mut().enumerate() {
+        if *value == UNASSIGNED {
+            *value = (plan[v * ROW_WORDS] % 256) as u8;
         }
-        v += 1;
     }
 }
 
@@ -177,12 +157,8 @@ pub fn take_found(vals: &mut [u8], plan: &Plan, a: Answer) -> Answer
     requires { length vals.old ≤ variables }
     ensures { (result ≡ a) × (vals.new ≡ afterwards vals.old plan.now a) }
 {
-    match a {
-        Answer::Consistent(t) => {
-            fill(vals, plan);
-            Answer::Consistent(t)
-        }
-        Answer::Inconsistent(t) => Answer::Inconsistent(t),
-        Answer::Spent(t) => Answer::Spent(t),
+    if let Answer::Consistent(_) = a {
+        fill(vals, plan);
     }
+    a
 }

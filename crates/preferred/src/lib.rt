@@ -11,7 +11,7 @@ ghost use Rattle.theory.specs.Plant.{Sized};
 ghost use Rattle.theory.specs.Tables.{Tabled};
 ghost use Rattle.theory.specs.Value.{Better, BestValue, PreferredValues};
 
-use limits::{VALUES, wide};
+use limits::VALUES;
 
 // Whether a figure is better than another: of costs the lesser, of weights the greater.
 fn better(weighed: bool, a: u16, b: u16) -> bool
@@ -29,9 +29,7 @@ pub fn best(row: &[u16], size: usize, weighed: bool) -> usize
     ensures { BestValue (Better weighed) (take size row.now) result }
 {
     let mut value = 0;
-    let mut x = 0;
-    while x + 1 < size {
-        x += 1;
+    for x in 1..size {
         if better(weighed, row[x], row[value]) {
             value = x;
         }
@@ -44,13 +42,10 @@ pub fn preferred(sizes: &[u8], costs: &[u16], d: usize, weighed: bool) -> u64
     requires { (d ≤ 16) × (d ≤ length sizes.now) × (16 * d ≤ length costs.now) × All Sized (take d sizes.now) }
     ensures { (p : Plant) (counts lits : List ℕ) → Tabled p d sizes.now costs.now counts lits → PreferredValues weighed p result }
 {
-    let mut word: u64 = 0;
-    let mut v = 0;
-    while v < d {
-        let row = VALUES * v;
-        let x = best(&costs[row..], wide(sizes[v]), weighed);
+    let mut word = 0;
+    for v in 0..d {
+        let x = best(&costs[VALUES * v..], usize::from(sizes[v]), weighed);
         word += (x as u64) << (60 - 4 * v);
-        v += 1;
     }
     word
 }

@@ -3,14 +3,14 @@
 // can say.
 #![tactic(auto)]
 
-ghost use Rattle.std.specs.Prelude.{OnErr, OnOk, [], ◌∷◌, ◌++◌, ◌≤◌};
+ghost use Rattle.std.specs.Prelude.{OnErr, OnOk, [], ◌∷◌, ◌++◌, ◌<◌, ◌≤◌, length, take};
 ghost use Rattle.std.specs.Io.KnownBytes.{Appends};
 ghost use Rattle.model.specs.Text.{decimal, hexadecimal};
 ghost use Rattle.printing.specs.Front.{AppendsFront};
 
 use std::io;
 use std::io::Write;
-use text::{put_bytes, put_decimal, put_hexadecimal};
+use text::{put_decimal, put_hexadecimal};
 
 // The longest number in decimal, and the byte that follows it.
 const NUMBER_BYTES: usize = 21;
@@ -21,10 +21,7 @@ pub fn print_text<W: Write>(out: &mut W, text: &[u8]) -> io::Result<()>
     ensures err { OnErr result (AppendsFront (W.contents out.old) (W.contents out.new) text.now) }
 {
     let mut done = 0;
-    for _turn in 0..text.len() {
-        if done >= text.len() {
-            break;
-        }
+    while done < text.len() {
         let n = out.write(&text[done..])?;
         if n == 0 {
             return Err(io::Error::from(io::ErrorKind::WriteZero));
@@ -34,6 +31,16 @@ pub fn print_text<W: Write>(out: &mut W, text: &[u8]) -> io::Result<()>
     Ok(())
 }
 
+// Writes the front of a line, up to a place, and then a byte.
+fn print_front<W: Write>(out: &mut W, line: &mut [u8], at: usize, after: u8) -> io::Result<()>
+    requires { at < length line.old }
+    ensures ok { OnOk result (Appends (W.contents out.old) (W.contents out.new) (take at line.old ++ (after ∷ []))) }
+    ensures err { OnErr result (AppendsFront (W.contents out.old) (W.contents out.new) (take at line.old ++ (after ∷ []))) }
+{
+    line[at] = after;
+    print_text(out, &line[..=at])
+}
+
 // Writes a number in decimal and the byte that follows it.
 pub fn print_number<W: Write>(out: &mut W, n: u64, after: u8) -> io::Result<()>
     ensures ok { OnOk result (Appends (W.contents out.old) (W.contents out.new) (decimal n ++ (after ∷ []))) }
@@ -41,34 +48,16 @@ pub fn print_number<W: Write>(out: &mut W, n: u64, after: u8) -> io::Result<()>
 {
     let mut line = [0u8; NUMBER_BYTES];
     let at = put_decimal(&mut line, 0, n);
-    let end = put_bytes(&mut line, at, &[after]);
-    print_text(out, &line[..end])
+    print_front(out, &mut line, at, after)
 }
 
-// Writes a number in so many hexadecimal digits, sixteen at most, and the byte that follows it.
-fn print_hex<W: Write>(out: &mut W, n: u64, places: usize, after: u8) -> io::Result<()>
-    requires { places ≤ 16 }
-    ensures ok { OnOk result (Appends (W.contents out.old) (W.contents out.new) (hexadecimal places n ++ (after ∷ []))) }
-    ensures err { OnErr result (AppendsFront (W.contents out.old) (W.contents out.new) (hexadecimal places n ++ (after ∷ []))) }
+// Writes a number in so many hexadecimal digits and the byte that follows it.
+pub fn print_hex<W: Write>(out: &mut W, n: u64, digits: usize, after: u8) -> io::Result<()>
+    requires { digits ≤ 16 }
+    ensures ok { OnOk result (Appends (W.contents out.old) (W.contents out.new) (hexadecimal digits n ++ (after ∷ []))) }
+    ensures err { OnErr result (AppendsFront (W.contents out.old) (W.contents out.new) (hexadecimal digits n ++ (after ∷ []))) }
 {
     let mut line = [0u8; NUMBER_BYTES];
-    let at = put_hexadecimal(&mut line, 0, n, places);
-    let end = put_bytes(&mut line, at, &[after]);
-    print_text(out, &line[..end])
-}
-
-// Writes a number in eight hexadecimal digits and the byte that follows it.
-pub fn print_hex8<W: Write>(out: &mut W, n: u32, after: u8) -> io::Result<()>
-    ensures ok { OnOk result (Appends (W.contents out.old) (W.contents out.new) (hexadecimal 8 n ++ (after ∷ []))) }
-    ensures err { OnErr result (AppendsFront (W.contents out.old) (W.contents out.new) (hexadecimal 8 n ++ (after ∷ []))) }
-{
-    print_hex(out, n as u64, 8, after)
-}
-
-// Writes a number in sixteen hexadecimal digits and the byte that follows it.
-pub fn print_hex16<W: Write>(out: &mut W, n: u64, after: u8) -> io::Result<()>
-    ensures ok { OnOk result (Appends (W.contents out.old) (W.contents out.new) (hexadecimal 16 n ++ (after ∷ []))) }
-    ensures err { OnErr result (AppendsFront (W.contents out.old) (W.contents out.new) (hexadecimal 16 n ++ (after ∷ []))) }
-{
-    print_hex(out, n, 16, after)
+    let at = put_hexadecimal(&mut line, 0, n, digits);
+    print_front(out, &mut line, at, after)
 }

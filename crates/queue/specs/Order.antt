@@ -1,4 +1,4 @@
--- An entry's words and the order of entries. Another packing takes this one's place here, in `entry_of`, `mask_in`, `code_in` and `figure_in` of src/, and in proofs/EntryLaws.antt: nothing else reads its text. Assumes nothing: these are definitions.
+-- An entry's words and the order of entries. Another packing takes this one's place here, in `entry_of` and the methods of `Entry` in src/, and in proofs/EntryLaws.antt: nothing else reads its text. Assumes nothing: these are definitions.
 use Rattle.std.specs.Prelude.{◌≡◌, Bool, true, false, ◌&&◌, ◌||◌, List, ℕ, ◌+◌, ◌-◌, ◌*◌, ◌/◌, ◌%◌, ◌^◌, ◌≤◌, ◌<◌, ltb, eqb, length}
 use Rattle.model.specs.Lists.{All}
 use Rattle.model.specs.Assignment.{Assignment, Fits, Valid, mask_of, code}

@@ -2,7 +2,7 @@
 // keeps n, the number of entries. `Holds` says that the first n entries are those of the model's queue; how they stand (a
 // binary heap) is known only here, and what stands beyond them is not said. An entry is one number in two words: first
 // what the order goes by, figure and code of the node's best state, then the mask. So the queue compares two words, for
-// either edition; only how an entry is packed (`entry_of`, `code_in`, `figure_in`) knows which it is.
+// either edition; only how an entry is packed (`entry_of` and the methods of `Entry`) knows which it is.
 #![tactic(auto)]
 
 ghost use Rattle.std.specs.Prelude.{◌≡◌, List, [], ◌∷◌, ℕ, ◌+◌, ◌-◌, ◌*◌, ◌≤◌, ◌<◌, length, get_or, set, replicate};
@@ -11,14 +11,16 @@ ghost use Rattle.model.specs.Assignment.{Assignment, Valid, mask_of, code};
 ghost use Rattle.model.specs.Order.{Order, best};
 ghost use Rattle.model.specs.Listing.{enqueue, leave_off};
 ghost use Rattle.theory.specs.Nodes.{Ordered};
-ghost use Rattle.theory.specs.Words.{Words};
+ghost use Rattle.theory.specs.Words.{Words, Wide};
 ghost use Rattle.queue.specs.Order.{entry_of, mask_in, code_in, figure_in, comes_before, Keyed, Suits};
 ghost use Rattle.queue.specs.Entries.{pairs};
 ghost use Rattle.queue.specs.Inside.{HeapFrom, LesserChild, Sifted, Rebuilt, Stays};
 ghost use Rattle.queue.specs.Queue.{Holds};
 
-// The two words of an entry.
-#[derive(Clone, Copy)]
+use words::{Pair, WidePair};
+
+// The two words of an entry. Entries are in the order of their first words, and of equal ones in that of their second words.
+#[derive(Clone, Copy, PartialEq, Eq, PartialOrd, Ord)]
 pub struct Entry {
     pub a: u64,
     pub b: u64,
@@ -60,49 +62,51 @@ pub fn entry_of(mask: u64, best_code: u64, figure: u64, weighed: bool) -> Entry
     }
 }
 
-// The mask of an entry's node.
-pub fn mask_in(b: u64) -> u64
-    ensures { result ≡ mask_in b }
-{
-    b << MASK_LOW
-}
-
-// The code of the best state of an entry's node.
-pub fn code_in(a: u64, b: u64, weighed: bool) -> u64
-    ensures { result ≡ code_in weighed (a, b) }
-{
-    if weighed {
-        return (b >> WEIGHED_PLACE) << WEIGHED_LOW;
+impl Entry {
+    // The mask of the entry's node.
+    pub fn mask(self) -> u64
+        ensures { result ≡ mask_in self.b }
+    {
+        self.b << MASK_LOW
     }
-    (a << CODE_LOW) + (b >> CODE_PLACE)
-}
 
-// The figure of the best state of an entry's node.
-pub fn figure_in(a: u64, weighed: bool) -> u64
-    ensures { result ≡ figure_in weighed a }
-{
-    if weighed {
-        return GREATEST - a;
+    // The code of the best state of the entry's node.
+    pub fn code(self, weighed: bool) -> u64
+        ensures { result ≡ code_in weighed (self.a, self.b) }
+    {
+        if weighed {
+            return (self.b >> WEIGHED_PLACE) << WEIGHED_LOW;
+        }
+        (self.a << CODE_LOW) + (self.b >> CODE_PLACE)
     }
-    a >> COST_PLACE
-}
 
-// The mask and values of an entry's node.
-fn node_of(a: u64, b: u64, weighed: bool) -> words::Pair
-    ensures { (ss : List ℕ) (o : Order) (n : Assignment) → Suits ss o → weighed ≡ o.weighed → Valid ss n → (a, b) ≡ entry_of o n → Words n result.mask result.values }
-{
-    let mask = mask_in(b);
-    words::Pair {
-        mask: mask,
-        values: code_in(a, b, weighed) & words::widened(mask),
+    // The figure of the best state of the entry's node.
+    pub fn figure(self, weighed: bool) -> u64
+        ensures { result ≡ figure_in weighed self.a }
+    {
+        if weighed {
+            return GREATEST - self.a;
+        }
+        self.a >> COST_PLACE
     }
 }
 
-// Whether the entry (a, b) comes before the entry (c, d): the queue's order.
-fn comes_before(a: u64, b: u64, c: u64, d: u64) -> bool
-    ensures { result ≡ comes_before (a, b) (c, d) }
+// The widened mask and the values of an entry's node.
+fn node_of(e: Entry, weighed: bool) -> WidePair
+    ensures { (ss : List ℕ) (o : Order) (n : Assignment) → Suits ss o → weighed ≡ o.weighed → Valid ss n → (e.a, e.b) ≡ entry_of o n → Wide n result.mask result.values }
 {
-    (a < c) | ((a == c) & (b < d))
+    let wide = words::widened(e.mask());
+    WidePair {
+        mask: wide,
+        values: e.code(weighed) & wide,
+    }
+}
+
+// Whether one entry comes before another: the queue's order.
+fn comes_before(x: Entry, y: Entry) -> bool
+    ensures { result ≡ comes_before (x.a, x.b) (y.a, y.b) }
+{
+    x < y
 }
 
 // The entry at place i.
@@ -116,13 +120,13 @@ fn entry_at(queue: &[u64], i: usize) -> Entry
     }
 }
 
-// Writes the entry (a, b) to place i.
-fn put(queue: &mut [u64], i: usize, a: u64, b: u64)
+// Writes an entry to place i.
+fn put(queue: &mut [u64], i: usize, e: Entry)
     requires { 2 * i + 1 < length queue.old }
-    ensures { pairs queue.new ≡ set (pairs queue.old) i (a, b) }
+    ensures { pairs queue.new ≡ set (pairs queue.old) i (e.a, e.b) }
 {
-    queue[2 * i] = a;
-    queue[2 * i + 1] = b;
+    queue[2 * i] = e.a;
+    queue[2 * i + 1] = e.b;
 }
 
 // The child of place i that is due first: it has one, and may have two.
@@ -135,47 +139,47 @@ fn lesser_child(queue: &[u64], n: usize, i: usize) -> usize
     if c + 1 < n {
         let x = entry_at(queue, c);
         let y = entry_at(queue, c + 1);
-        c + comes_before(y.a, y.b, x.a, x.b) as usize
+        c + usize::from(comes_before(y, x))
     } else {
         c
     }
 }
 
-// Puts (a, b) at place `from` or below it, and moves entries up where they are due first, so that all from `from` on is in order.
-fn sift_down(queue: &mut [u64], n: usize, from: usize, a: u64, b: u64)
+// Puts an entry at place `from` or below it, and moves entries up where they are due first, so that all from `from` on is in order.
+fn sift_down(queue: &mut [u64], n: usize, from: usize, e: Entry)
     requires n_in_bounds { 2 * n ≤ length queue.old }
     requires from_lt_n { from < n }
-    ensures { HeapFrom (from + 1) n (pairs queue.old) → Sifted n from a b (pairs queue.old) (pairs queue.new) }
+    ensures { HeapFrom (from + 1) n (pairs queue.old) → Sifted n from e.a e.b (pairs queue.old) (pairs queue.new) }
 {
     let mut i = from;
     while 2 * i + 1 < n {
         let c = lesser_child(queue, n, i);
-        let e = entry_at(queue, c);
-        if !comes_before(e.a, e.b, a, b) {
+        let child = entry_at(queue, c);
+        if !comes_before(child, e) {
             break;
         }
-        put(queue, i, e.a, e.b);
+        put(queue, i, child);
         i = c;
     }
-    put(queue, i, a, b);
+    put(queue, i, e);
 }
 
-// Puts the node with the entry (a, b) into a queue of n nodes.
-pub fn push(queue: &mut [u64], n: usize, a: u64, b: u64)
+// Puts the node with this entry into a queue of n nodes.
+pub fn push(queue: &mut [u64], n: usize, entry: Entry)
     requires { 2 * n + 2 ≤ length queue.old }
-    ensures { (o : Order) (nodes : List Assignment) (node : Assignment) → Holds o n queue.old nodes → (a, b) ≡ entry_of o node → Holds o (n + 1) queue.new (enqueue o node nodes) }
+    ensures { (o : Order) (nodes : List Assignment) (node : Assignment) → Holds o n queue.old nodes → (entry.a, entry.b) ≡ entry_of o node → Holds o (n + 1) queue.new (enqueue o node nodes) }
 {
     let mut i = n;
     while 0 < i {
         let p = (i - 1) / 2;
-        let e = entry_at(queue, p);
-        if !comes_before(a, b, e.a, e.b) {
+        let parent = entry_at(queue, p);
+        if !comes_before(entry, parent) {
             break;
         }
-        put(queue, i, e.a, e.b);
+        put(queue, i, parent);
         i = p;
     }
-    put(queue, i, a, b);
+    put(queue, i, entry);
 }
 
 // Takes the node whose best state comes first out of a queue of n nodes, and returns its entry.
@@ -187,7 +191,7 @@ pub fn pop(queue: &mut [u64], n: usize) -> Entry
     let first = entry_at(queue, 0);
     if 1 < n {
         let last = entry_at(queue, n - 1);
-        sift_down(queue, n - 1, 0, last.a, last.b);
+        sift_down(queue, n - 1, 0, last);
     }
     first
 }
@@ -197,21 +201,17 @@ fn rebuild(queue: &mut [u64], n: usize)
     requires { 2 * n ≤ length queue.old }
     ensures { Rebuilt n (pairs queue.old) (pairs queue.new) }
 {
-    let mut i = n / 2;
-    while 0 < i {
-        i -= 1;
+    for i in (0..n / 2).rev() {
         let e = entry_at(queue, i);
-        sift_down(queue, n, i, e.a, e.b);
+        sift_down(queue, n, i, e);
     }
 }
 
-// Whether an entry's node does not manifest a conflict, which is given by its values and its widened mask.
-fn stays(a: u64, b: u64, weighed: bool, conflict_values: u64, conflict_wide: u64) -> bool
-    ensures { Stays weighed conflict_wide conflict_values (a, b) result }
+// Whether an entry's node does not manifest a conflict.
+fn stays(e: Entry, weighed: bool, conflict: WidePair) -> bool
+    ensures { Stays weighed conflict.mask conflict.values (e.a, e.b) result }
 {
-    let n = node_of(a, b, weighed);
-    let wide = words::widened(n.mask);
-    !words::manifests(n.values, wide, conflict_values, conflict_wide)
+    !node_of(e, weighed).manifests(conflict)
 }
 
 // Removes the nodes that manifest the conflict with these words from a queue of n nodes, and returns how many are left.
@@ -219,16 +219,14 @@ pub fn sieve(queue: &mut [u64], n: usize, weighed: bool, mask: u64, values: u64)
     requires { 2 * n ≤ length queue.old }
     ensures { (result ≤ n) × ((ss : List ℕ) (o : Order) (nodes : List Assignment) (c : Assignment) → Suits ss o → weighed ≡ o.weighed → All (Valid ss) nodes → Words c mask values → length c ≡ length ss → Holds o n queue.old nodes → Holds o result queue.new (leave_off (c ∷ []) nodes)) }
 {
-    let wide = words::widened(mask);
+    let conflict = Pair { mask, values }.widened();
     let mut count = 0;
-    let mut i = 0;
-    while i < n {
+    for i in 0..n {
         let e = entry_at(queue, i);
-        if stays(e.a, e.b, weighed, values, wide) {
-            put(queue, count, e.a, e.b);
+        if stays(e, weighed, conflict) {
+            put(queue, count, e);
             count += 1;
         }
-        i += 1;
     }
     rebuild(queue, count);
     count
@@ -238,9 +236,5 @@ pub fn sieve(queue: &mut [u64], n: usize, weighed: bool, mask: u64, values: u64)
 pub fn clear(queue: &mut [u64])
     ensures { queue.new ≡ replicate (length queue.old) 0 }
 {
-    let mut i = 0;
-    while i < queue.len() {
-        queue[i] = 0;
-        i += 1;
-    }
+    queue.fill(0);
 }

@@ -1,10 +1,10 @@
 -- The tables of an accepted sheet, without gaps, at the front of lent ones. Assumes nothing.
-use mathlib.Core.Path.{◌≡◌, refl, ap, ◌∙◌}
+use mathlib.Core.Path.{◌≡◌, ap, ◌∙◌}
 use mathlib.Core.Bool.{false}
 use mathlib.Core.List.{List, [], ◌∷◌, map}
-use Prim.Native.Nat.{ℕ, ◌+◌, ◌*◌, ◌≤◌}
+use Prim.Native.Nat.{ℕ, ◌+◌, ◌*◌}
 use native.Mathlib.Omega.{arith}
-use lib.ListN.{length, take, set, length-drop}
+use lib.ListN.{length, take, length-drop}
 use lib.Seq.{length-take-le, take-take}
 use Rattle.model.specs.Lists.{All, in_turn, filled}
 use Rattle.model.specs.Sheet.{Plant, Read, edition1, read_sheet}
@@ -16,10 +16,12 @@ use Rattle.theory.specs.Tables.{rows, tables_given}
 use Rattle.theory.proofs.PlantTables.{clauses-lengths, clauses-turns}
 use Rattle.theory.proofs.TableClauses.{clauses_length}
 use Rattle.theory.proofs.Tables.{tabled-decisions, tabled-count, tabled-sizes, tabled-clauses, tabled-sized}
+use Rattle.std.specs.Prelude.{Result, Ok, Err}
+use Rattle.refusal.specs.Refusal.{author_number}
+use Rattle.refusal.specs.declared.AuthorGround.{AuthorGround}
 use Rattle.refusal.specs.declared.Refusal.{Refusal}
-use Rattle.refusal.proofs.Reading.{Opened as Read_in}
+use Rattle.sheet.proofs.Reading.{Opened as Read_in}
 use Rattle.read_call.specs.Lent.{tables_lent, Answers}
-use Rattle.read_call.specs.declared.Opened.{Opened}
 
 -- ---- what was read
 
@@ -53,13 +55,6 @@ module _ {sheet sizes costs counts lits : List ℕ} {d s c : ℕ} (o : Read_in f
 
 -- ---- what was put
 
--- three numbers stored one after another
-pub numbers_filled : (d s c : ℕ) (out : List ℕ) → 3 ≤ length out → set (set (set out 0 d) 1 s) 2 c ≡ filled (d ∷ s ∷ c ∷ []) out
-numbers_filled d s c [] h = absurd (omega arith)
-numbers_filled d s c (x ∷ []) h = absurd (omega arith)
-numbers_filled d s c (x ∷ y ∷ []) h = absurd (omega arith)
-numbers_filled d s c (x ∷ y ∷ z ∷ out) h = refl
-
 -- tables and their numbers at the front of lent ones
 pub filled-lent : (t : Tables) (sizes costs counts lits numbers : List ℕ) {sizes' costs' counts' lits' numbers' : List ℕ}
     → sizes' ≡ filled t.sizes sizes → costs' ≡ filled t.costs costs → counts' ≡ filled t.counts counts → lits' ≡ filled t.literals lits → numbers' ≡ filled (t.decisions ∷ t.states ∷ t.clauses ∷ []) numbers
@@ -70,14 +65,14 @@ filled-lent t sizes costs counts lits numbers p q r u n = rw (p, q, r, u, n)
 
 module _ (sheet : List ℕ) (before : Tables) where
   -- the answer, and the lent tables after
-  abbrev Told : Opened → Tables → Type 0
+  abbrev Told : Result (Unit {0}) Refusal → Tables → Type 0
   Told r after = Answers r (read_tables sheet) × (after ≡ tables_after before (read_tables sheet))
 
   -- the sheet is refused, and nothing is changed
-  pub refused-told : (n : ℕ) → read_sheet edition1 sheet ≡ Read.refused n → Told (Opened.Refused (Refusal.Author n)) before
+  pub refused-told : (g : AuthorGround) → read_sheet edition1 sheet ≡ Read.refused (author_number g) → Told (Err (Refusal.Author g)) before
   unfolding read_tables
-  refused-told n e = let f : read_tables sheet ≡ refused (by_author n) = rw (read_tables, e) in (f, rw f)
+  refused-told g e = let f : read_tables sheet ≡ refused (by_author (author_number g)) = rw (read_tables, e) in (f, rw f)
 
   -- the sheet's tables are at the front of the lent ones
-  pub opened-told : {sizes costs counts lits : List ℕ} {d s c : ℕ} (after : Tables) → Read_in false sheet sizes costs counts lits d s c → after ≡ filled_tables (closed d s c sizes costs counts lits) before → Told Opened.Tables after
+  pub opened-told : {sizes costs counts lits : List ℕ} {d s c : ℕ} (after : Tables) → Read_in false sheet sizes costs counts lits d s c → after ≡ filled_tables (closed d s c sizes costs counts lits) before → Told (Ok tt) after
   opened-told after o e = let f = opened-tables o in ((_, f), rw f e)

@@ -1,43 +1,21 @@
 -- What the answers say of the readings that they stand for, and laws by which the readers' loops meet the model's readings. Assumes nothing.
-use mathlib.Core.Path.{◌≡◌, refl, sym, ap, ◌∙◌, subst}
+use mathlib.Core.Path.{◌≡◌, refl, sym, ap, ◌∙◌}
 use mathlib.Core.List.{List, [], ◌∷◌, ◌++◌, append-nil, append_assoc}
 use Prim.Native.Nat.{ℕ, suc, ◌+◌, ◌-◌, ◌≤◌, ◌<◌}
 use native.Mathlib.Omega.{arith}
 use native.Mathlib.Nat.{sub-zero}
 use Rattle.model.specs.Sheet.{Read, refused, got, then, many}
-use Rattle.bits.specs.Field.{field_of}
-use Rattle.bits.specs.declared.Field.{Field}
-use Rattle.bits.specs.declared.Field.TheVariants.{Value, Past}
-use Rattle.readings.specs.Answers.{step_of, Onward, item_of, Within}
-use Rattle.readings.specs.declared.Step.{Step}
-use Rattle.readings.specs.declared.Item.{Item}
+use Rattle.std.specs.Prelude.{Result, Ok, Err, IsErrAnd}
+use Rattle.refusal.specs.declared.AuthorGround.{AuthorGround}
+use Rattle.refusal.specs.Refusal.{author_number}
+use Rattle.readings.specs.Answers.{read_of}
 
 -- ---- what an answer says of the reading that it stands for
 
-pub was_value : {r : Field} {v after : ℕ} {x : Read ℕ} → r ≡ Value v → field_of after r ≡ x → x ≡ got v after
-was_value {after = after} e h = sym h ∙ ap (field_of after) e
-
-pub was_past : {r : Field} (after : ℕ) {x : Read ℕ} → r ≡ Past → field_of after r ≡ x → x ≡ refused 5
-was_past after e h = sym h ∙ ap (field_of after) e
-
-module _ {A : Type 0} where
-  pub was_item : {r : Item} {n place : ℕ} (a : ℕ → A) {y : Read A} → r ≡ Item.Got n place → item_of a r ≡ y → y ≡ got (a n) place
-  was_item a e h = sym h ∙ ap (item_of a) e
-
-  pub no_item : {r : Item} {k : ℕ} (a : ℕ → A) {y : Read A} → r ≡ Item.Refused k → item_of a r ≡ y → y ≡ refused k
-  no_item a e h = sym h ∙ ap (item_of a) e
-
-  pub was_step : {r : Step} {place : ℕ} (a : A) {y : Read A} → r ≡ Step.Next place → step_of a r ≡ y → y ≡ got a place
-  was_step a e h = sym h ∙ ap (step_of a) e
-
-  pub no_step : {r : Step} {k : ℕ} (a : A) {y : Read A} → r ≡ Step.Refused k → step_of a r ≡ y → y ≡ refused k
-  no_step a e h = sym h ∙ ap (step_of a) e
-
-pub within : {r : Item} {n place : ℕ} (m p : ℕ) → r ≡ Item.Got n place → Within m p r → (n ≤ m) × (place ≤ p)
-within m p e h = subst (Within m p) e h
-
-pub onward : {r : Step} {place : ℕ} (P : ℕ → Type 0) → r ≡ Step.Next place → Onward P r → P place
-onward P e h = subst (Onward P) e h
+-- the exit of a `?`: the ground on which one reading was refused is that of the whole
+pub refused_as : {A B : Type 0} (a : B → A) (place : ℕ) (g : AuthorGround) {x : Read A} (r : Result B AuthorGround) → IsErrAnd r (λ y. y ≡ g) → x ≡ refused (author_number g) → read_of a place r ≡ x
+refused_as a place g (Ok b) e h = absurd e
+refused_as a place g (Err y) e h = ap (λ g. refused (author_number g)) e ∙ sym h
 
 -- ---- a loop of n readings of one kind
 

@@ -1,6 +1,6 @@
 -- How many bits the variables of a sheet have at most, and how long the tables are that hold the largest plant. Assumes nothing: these are definitions.
 use Rattle.std.specs.Prelude.{ℕ, ◌+◌, ◌*◌}
-use Rattle.theory.specs.Longest.{head_bits, state_bits}
+use Rattle.theory.specs.Longest.{state_bits}
 
 -- ---- bits of a sheet
 
@@ -8,9 +8,9 @@ use Rattle.theory.specs.Longest.{head_bits, state_bits}
 abbrev pub decision_bits : ℕ
 decision_bits = 4 + 16 * 16
 
--- the head and the variables at most
-abbrev pub variables_end : ℕ
-variables_end = head_bits + 16 * decision_bits + 32 * state_bits
+-- the variables at most
+abbrev pub variable_bits : ℕ
+variable_bits = 16 * decision_bits + 32 * state_bits
 
 -- ---- lengths of tables
 

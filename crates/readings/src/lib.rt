@@ -1,9 +1,15 @@
-// What the reader of a plant sheet goes by in all its parts: what reading a part comes to, how many bits a part has, and how
-// long the tables are that hold the largest plant. The definitions have the same names, in `specs/Lengths` and in the
-// theory's `specs/Longest`: `head_bits` is HEAD_BITS.
+// What the reader of a plant sheet goes by in all its parts: how many bits a part has, how long the tables are that hold the
+// largest plant, and how a field is read. The definitions have the same names, in `specs/Lengths` and in the theory's
+// `specs/Longest`: `head_bits` is HEAD_BITS.
 #![tactic(auto)]
 
+ghost use Rattle.std.specs.Prelude.{◌≡◌, ◌+◌, ◌≤◌, ◌<◌, ◌^◌, IfOk};
+ghost use Rattle.model.specs.Sheet.{field as field_in};
+ghost use Rattle.readings.specs.Answers.{read_of};
+
+use bits::Reader;
 use limits::{CLAUSES, DECISIONS, LITERALS, VALUES, VARIABLES};
+use refusal::AuthorGround;
 
 // State variables of a plant.
 pub const STATES: usize = VARIABLES - DECISIONS;
@@ -41,16 +47,13 @@ pub const LITERAL_BYTES: usize = COUNT_ENTRIES * CLAUSE_BYTES;
 // Words for the numbers of decision variables, of state variables and of clauses.
 pub const NUMBERS: usize = 3;
 
-// A part that is in a table: the place after it, or a refusal.
-#[derive(Clone, Copy)]
-pub enum Step {
-    Next(usize),
-    Refused(u32),
-}
-
-// A number, of what was read or of how many entries of a table it fills, with the place after it; or a refusal.
-#[derive(Clone, Copy)]
-pub enum Item {
-    Got(usize, usize),
-    Refused(u32),
+// The field of w bits that the reader takes next. Past the end the sheet is too short.
+pub fn field(reader: &mut Reader, w: usize) -> Result<u32, AuthorGround>
+    requires { (w ≤ 16) × (reader.old.place + w < 2 ^ 64) }
+    ensures sheet { reader.new.sheet ≡ reader.old.sheet }
+    ensures place { reader.new.place ≡ reader.old.place + w }
+    ensures fits { IfOk result (λ n. n < 2 ^ w) }
+    ensures read { read_of (λ n. n) reader.new.place result ≡ field_in reader.old.sheet.now w reader.old.place }
+{
+    reader.take(w).ok_or(AuthorGround::SheetShort)
 }

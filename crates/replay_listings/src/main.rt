@@ -3,18 +3,18 @@
 // must print was written by the outside program.
 #![tactic(auto)]
 
-ghost use Rattle.std.specs.Prelude.{◌≡◌, ◌≤◌, length};
-ghost use Rattle.vectors.specs.Bytes.{over, mix, mix64};
+ghost use Rattle.std.specs.Prelude.{◌≡◌, ◌≤◌, fold};
+ghost use Rattle.vectors.specs.Bytes.{mix, mix64};
 
 use answers::{print_ending, print_refusal};
-use listing::{Answer, Counts};
+use listing::{Counts, Ran};
 use listing_call::list;
-use printing::{print_hex8, print_number};
+use printing::{print_hex, print_number};
+use refusal::Refusal;
 use std::io;
 use std::io::{Read, Write};
 use vectors::{
-    CHECKSUM_START, mixed_all, mixed_all_u32, mixed_all_u64, read_block, read_u8, read_u16,
-    read_u32, read_u64,
+    CHECKSUM_START, Mixed, mixed_all, read_block, read_u8, read_u16, read_u32, read_u64,
 };
 use weights_call::list_weights;
 
@@ -26,98 +26,70 @@ const VALUES_ROOM: usize = 196_700;
 
 // Makes every word junk plus its own place.
 fn fill(words: &mut [u64], junk: u64) {
-    let mut word = junk;
-    for w in words.iter_mut() {
-        *w = word;
-        word = word.wrapping_add(1);
+    for (place, word) in words.iter_mut().enumerate() {
+        *word = junk.wrapping_add(place as u64);
     }
 }
 
-// Reads the first n words.
-fn read_words<R: Read>(input: &mut R, words: &mut [u64], n: usize) -> io::Result<()>
-    requires { n ≤ length words.old }
-{
-    for i in 0..n {
-        words[i] = read_u64(input)?;
+// Reads the words.
+fn read_words<R: Read>(input: &mut R, words: &mut [u64]) -> io::Result<()> {
+    for word in words.iter_mut() {
+        *word = read_u64(input)?;
     }
     Ok(())
 }
 
 // The checksum of every lent word behind the figures, from that of the words before.
 fn checksum(figured: u32, values: &[u8], queue: &[u64], store: &[u64]) -> u32
-    ensures { result ≡ over mix64 (over mix64 (over mix figured values.now) queue.now) store.now }
+    ensures { result ≡ fold mix64 (fold mix64 (fold mix figured values.now) queue.now) store.now }
 {
     let shown = mixed_all(figured, values);
-    let queued = mixed_all_u64(shown, queue);
-    mixed_all_u64(queued, store)
+    let queued = mixed_all(shown, queue);
+    mixed_all(queued, store)
 }
 
 // Prints the counts of a run.
 fn print_counts<W: Write>(out: &mut W, c: Counts) -> io::Result<()> {
-    print_number(out, c.listed as u64, b' ')?;
-    print_number(out, c.tested as u64, b' ')?;
-    print_number(out, c.learned as u64, b' ')?;
-    print_number(out, c.unkept as u64, b' ')?;
-    print_number(out, c.trials as u64, b' ')
+    print_number(out, u64::from(c.listed), b' ')?;
+    print_number(out, u64::from(c.tested), b' ')?;
+    print_number(out, u64::from(c.learned), b' ')?;
+    print_number(out, u64::from(c.unkept), b' ')?;
+    print_number(out, u64::from(c.trials), b' ')
 }
 
 // Prints a call's answer.
-fn print_answer<W: Write>(out: &mut W, answer: Answer) -> io::Result<()> {
+fn print_answer<W: Write>(out: &mut W, answer: Result<Ran, Refusal>) -> io::Result<()> {
     match answer {
-        Answer::Refused(r) => print_refusal(out, r, b' '),
-        Answer::Ran(e, c) => {
-            print_ending(out, e)?;
-            print_counts(out, c)
+        Err(refusal) => print_refusal(out, refusal, b' '),
+        Ok(ran) => {
+            print_ending(out, ran.ending)?;
+            print_counts(out, ran.counts)
         }
     }
 }
 
-// Makes the call of edition 1 and prints its line.
-fn answer<W: Write>(
+// Prints a call's line: its answer and a checksum of every lent word.
+fn print_line<W: Write, F: Mixed>(
     out: &mut W,
-    sheet: &[u8],
-    k: u32,
-    codes: &mut [u64],
-    costs: &mut [u32],
-    values: &mut [u8],
-    queue: &mut [u64],
-    store: &mut [u64],
-    held: usize,
-    limit: u32,
+    answer: Result<Ran, Refusal>,
+    codes: &[u64],
+    figures: &[F],
+    values: &[u8],
+    queue: &[u64],
+    store: &[u64],
 ) -> io::Result<()> {
-    let listed = list(sheet, k, codes, costs, values, queue, store, held, limit);
-    print_answer(out, listed)?;
-    let coded = mixed_all_u64(CHECKSUM_START, codes);
-    let priced = mixed_all_u32(coded, costs);
-    print_hex8(out, checksum(priced, values, queue, store), b'\n')
-}
-
-// Makes the call of edition 2 and prints its line.
-fn answer_weights<W: Write>(
-    out: &mut W,
-    sheet: &[u8],
-    k: u32,
-    codes: &mut [u64],
-    products: &mut [u64],
-    values: &mut [u8],
-    queue: &mut [u64],
-    store: &mut [u64],
-    held: usize,
-    limit: u32,
-) -> io::Result<()> {
-    let listed = list_weights(sheet, k, codes, products, values, queue, store, held, limit);
-    print_answer(out, listed)?;
-    let coded = mixed_all_u64(CHECKSUM_START, codes);
-    let weighed = mixed_all_u64(coded, products);
-    print_hex8(out, checksum(weighed, values, queue, store), b'\n')
+    print_answer(out, answer)?;
+    let coded = mixed_all(CHECKSUM_START, codes);
+    let figured = mixed_all(coded, figures);
+    let hash = checksum(figured, values, queue, store);
+    print_hex(out, u64::from(hash), 8, b'\n')
 }
 
 // So many bytes of values as there is room for.
 fn at_most_room(n: u32) -> usize
     ensures { result ≤ 196700 }
 {
-    let len = n as usize;
-    if len < VALUES_ROOM { len } else { VALUES_ROOM }
+    VALUES_ROOM.min(n as usize)
 }
 
 // Reads the rest of a case, from the lengths of its buffers on, and answers it.
@@ -128,14 +100,14 @@ fn replay_on<R: Read, W: Write>(
     sheet: &[u8],
     k: u32,
 ) -> io::Result<()> {
-    let codes_len = read_u16(input)?;
-    let costs_len = read_u16(input)?;
+    let codes_len = usize::from(read_u16(input)?);
+    let costs_len = usize::from(read_u16(input)?);
     let values_len = at_most_room(read_u32(input)?);
-    let queue_len = read_u16(input)?;
-    let store_len = read_u16(input)?;
-    let held = read_u16(input)?;
+    let queue_len = usize::from(read_u16(input)?);
+    let store_len = usize::from(read_u16(input)?);
+    let held = usize::from(read_u16(input)?);
     let limit = read_u32(input)?;
-    let given = read_u16(input)?;
+    let given = usize::from(read_u16(input)?);
     let mut codes = [0u64; 65536];
     let mut costs = [0x2222_2222u32; 65536];
     let mut products = [0x2222_2222_2222_2222u64; 65536];
@@ -145,40 +117,26 @@ fn replay_on<R: Read, W: Write>(
     fill(&mut codes, 0x1111_1111_1111_1111);
     fill(&mut queue, 0x3333_3333_3333_3333);
     fill(&mut store, 0x4444_4444_4444_4444);
-    read_words(input, &mut store, given)?;
+    read_words(input, &mut store[..given])?;
+    let codes = &mut codes[..codes_len];
+    let values = &mut values[..values_len];
+    let queue = &mut queue[..queue_len];
+    let store = &mut store[..store_len];
     if call == SECOND {
-        return answer_weights(
-            out,
-            sheet,
-            k,
-            &mut codes[..codes_len],
-            &mut products[..costs_len],
-            &mut values[..values_len],
-            &mut queue[..queue_len],
-            &mut store[..store_len],
-            held,
-            limit,
-        );
+        let products = &mut products[..costs_len];
+        let answer = list_weights(sheet, k, codes, products, values, queue, store, held, limit);
+        return print_line(out, answer, codes, products, values, queue, store);
     }
-    answer(
-        out,
-        sheet,
-        k,
-        &mut codes[..codes_len],
-        &mut costs[..costs_len],
-        &mut values[..values_len],
-        &mut queue[..queue_len],
-        &mut store[..store_len],
-        held,
-        limit,
-    )
+    let costs = &mut costs[..costs_len];
+    let answer = list(sheet, k, codes, costs, values, queue, store, held, limit);
+    print_line(out, answer, codes, costs, values, queue, store)
 }
 
 // Reads one case and answers it.
 fn replay<R: Read, W: Write>(input: &mut R, out: &mut W) -> io::Result<()> {
     let call = read_u8(input)?;
     let mut bytes = [0u8; 65536];
-    let length = read_u16(input)?;
+    let length = usize::from(read_u16(input)?);
     let n = read_block(input, &mut bytes, length)?;
     let k = read_u32(input)?;
     replay_on(input, out, call, &bytes[..n], k)

@@ -4,33 +4,23 @@
 #![tactic(auto)]
 
 ghost use Rattle.std.specs.Prelude.{◌≤◌, length};
-ghost use Rattle.readings.specs.Lengths.{size_entries, cost_entries, count_entries, literal_bytes};
+ghost use Rattle.readings.specs.Lengths.{size_entries, count_entries, literal_bytes};
 
 use limits::VALUES;
-use printing::{print_hex8, print_number, print_text};
-use sheet::{Answer, CLAUSE_BYTES, COST_ENTRIES, COUNT_ENTRIES, LITERAL_BYTES, SIZE_ENTRIES};
+use printing::{print_hex, print_number, print_text};
+use sheet::{CLAUSE_BYTES, COST_ENTRIES, COUNT_ENTRIES, LITERAL_BYTES, Numbers, SIZE_ENTRIES};
 use std::io;
 use std::io::{Read, Write};
-use vectors::{CHECKSUM_START, mixed_all, mixed_u16, read_block, read_u16};
+use vectors::{CHECKSUM_START, Mixed, mixed_all, read_block, read_u16};
 
-// The checksum with the first costs of a row, as many as its size says.
-fn mixed_row(hash: u32, row: &[u16], size: u8) -> u32 {
+// The checksum with the costs of the decision variables, as many of each row as its size says.
+fn mixed_rows(hash: u32, sizes: &[u8], costs: &[u16]) -> u32 {
     let mut h = hash;
-    for cost in row.iter().take(size as usize) {
-        h = mixed_u16(h, *cost);
-    }
-    h
-}
-
-// The checksum with the costs of d decision variables, whose rows have sixteen places each.
-fn mixed_rows(hash: u32, sizes: &[u8], costs: &[u16], d: usize) -> u32
-    requires { (d ≤ 16) × (16 ≤ length sizes.now) × (cost_entries ≤ length costs.now) }
-{
-    let mut h = hash;
-    for v in 0..d {
-        let at = VALUES * v;
-        let end = at + VALUES;
-        h = mixed_row(h, &costs[at..end], sizes[v]);
+    for (size, row) in sizes.iter().zip(costs.chunks(VALUES)) {
+        h = row
+            .iter()
+            .take(usize::from(*size))
+            .fold(h, |h, cost| cost.mixed(h));
     }
     h
 }
@@ -47,28 +37,19 @@ fn literal_bytes(counts: &[u8]) -> usize
         if n > LAST_CLAUSE {
             return n;
         }
-        n += 3 * (*count as usize % 16);
+        n += 3 * usize::from(*count % 16);
     }
     n
 }
 
 // The checksum of decoded tables: sizes, costs, counts and literals.
-fn checksum(
-    d: usize,
-    s: usize,
-    c: usize,
-    sizes: &[u8],
-    costs: &[u16],
-    counts: &[u8],
-    lits: &[u8],
-) -> u32
-    requires { (d ≤ 16) × (s ≤ 32) × (c ≤ 512) × (size_entries ≤ length sizes.now) × (cost_entries ≤ length costs.now) × (count_entries ≤ length counts.now) × (literal_bytes ≤ length lits.now) }
+fn checksum(numbers: Numbers, sizes: &[u8], costs: &[u16], counts: &[u8], lits: &[u8]) -> u32
+    requires { (numbers.decisions ≤ 16) × (numbers.states ≤ 32) × (numbers.clauses ≤ 512) × (size_entries ≤ length sizes.now) × (count_entries ≤ length counts.now) × (literal_bytes ≤ length lits.now) }
 {
-    let all = d + s;
-    let sized = mixed_all(CHECKSUM_START, &sizes[..all]);
-    let priced = mixed_rows(sized, sizes, costs, d);
-    let counted = mixed_all(priced, &counts[..c]);
-    let n = literal_bytes(&counts[..c]);
+    let sized = mixed_all(CHECKSUM_START, &sizes[..numbers.decisions + numbers.states]);
+    let priced = mixed_rows(sized, &sizes[..numbers.decisions], costs);
+    let counted = mixed_all(priced, &counts[..numbers.clauses]);
+    let n = literal_bytes(&counts[..numbers.clauses]);
     mixed_all(counted, &lits[..n])
 }
 
@@ -87,16 +68,16 @@ fn answer<W: Write>(out: &mut W, bytes: &[u8]) -> io::Result<()> {
         &mut counts,
         &mut lits,
     ) {
-        Answer::Refused(number) => {
+        Err(ground) => {
             print_text(out, b"refused ")?;
-            print_number(out, number as u64, b'\n')
+            print_number(out, u64::from(ground.number()), b'\n')
         }
-        Answer::Counts(d, s, c) => {
-            let h = checksum(d, s, c, &sizes, &costs, &counts, &lits);
-            print_number(out, d as u64, b' ')?;
-            print_number(out, s as u64, b' ')?;
-            print_number(out, c as u64, b' ')?;
-            print_hex8(out, h, b'\n')
+        Ok(numbers) => {
+            let hash = checksum(numbers, &sizes, &costs, &counts, &lits);
+            print_number(out, numbers.decisions as u64, b' ')?;
+            print_number(out, numbers.states as u64, b' ')?;
+            print_number(out, numbers.clauses as u64, b' ')?;
+            print_hex(out, u64::from(hash), 8, b'\n')
         }
     }
 }
@@ -104,7 +85,7 @@ fn answer<W: Write>(out: &mut W, bytes: &[u8]) -> io::Result<()> {
 // Reads one sheet and prints its line.
 fn replay<R: Read, W: Write>(input: &mut R, out: &mut W) -> io::Result<()> {
     let mut bytes = [0u8; 65536];
-    let length = read_u16(input)?;
+    let length = usize::from(read_u16(input)?);
     let n = read_block(input, &mut bytes, length)?;
     answer(out, &bytes[..n])
 }

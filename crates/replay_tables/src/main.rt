@@ -3,37 +3,27 @@
 // checksums of every lent byte. What it must print was written by the outside program.
 #![tactic(auto)]
 
-ghost use Rattle.std.specs.Prelude.{◌≡◌, ◌≤◌, IfOk, length};
-ghost use Rattle.vectors.specs.Bytes.{checksum_start, over, mix, mix16};
+ghost use Rattle.std.specs.Prelude.{◌≡◌, ◌≤◌, IfOk, fold};
+ghost use Rattle.vectors.specs.Bytes.{checksum_start, mix, mix16};
 
 use answers::print_refusal;
-use printing::{print_hex8, print_number, print_text};
-use read_call::Opened;
+use printing::{print_hex, print_number, print_text};
 use readings::{COST_ENTRIES, COUNT_ENTRIES, LITERAL_BYTES, SIZE_ENTRIES};
-use refusal::{Refusal, Written};
+use refusal::Refusal;
 use std::io;
 use std::io::{Read, Write};
-use vectors::{CHECKSUM_START, mixed_all, mixed_all_u16, read_block, read_u8, read_u16, read_u32};
+use table_rules::Tables;
+use vectors::{CHECKSUM_START, mixed_all, read_block, read_u8, read_u16, read_u32};
 
 // What the tables that are lent to a reading hold before, in every byte.
 const JUNK: u8 = 0xa5;
 
 const COST_JUNK: u16 = 0xa5a5;
 
-// Makes every byte the same.
-fn fill(bytes: &mut [u8], byte: u8) {
-    for b in bytes.iter_mut() {
-        *b = byte;
-    }
-}
-
-// Reads the first n costs.
-fn read_costs<R: Read>(input: &mut R, costs: &mut [u16], n: usize) -> io::Result<()>
-    requires { n ≤ length costs.old }
-{
-    for i in 0..n {
-        let cost = read_u16(input)?;
-        costs[i] = cost as u16;
+// Reads so many costs.
+fn read_costs<R: Read>(input: &mut R, costs: &mut [u16]) -> io::Result<()> {
+    for cost in costs.iter_mut() {
+        *cost = read_u16(input)?;
     }
     Ok(())
 }
@@ -45,10 +35,10 @@ fn checksum(
     counts: &[u8; COUNT_ENTRIES],
     lits: &[u8; LITERAL_BYTES],
 ) -> u32
-    ensures { result ≡ over mix (over mix (over mix16 (over mix checksum_start sizes.now) costs.now) counts.now) lits.now }
+    ensures { result ≡ fold mix (fold mix (fold mix16 (fold mix checksum_start sizes.now) costs.now) counts.now) lits.now }
 {
     let sized = mixed_all(CHECKSUM_START, sizes);
-    let priced = mixed_all_u16(sized, costs);
+    let priced = mixed_all(sized, costs);
     let counted = mixed_all(priced, counts);
     mixed_all(counted, lits)
 }
@@ -73,14 +63,15 @@ fn read_back<W: Write>(out: &mut W, sheet: &[u8]) -> io::Result<()> {
         &mut lits,
         &mut numbers,
     ) {
-        Opened::Refused(r) => print_refusal(out, r, b' ')?,
-        Opened::Tables => {
+        Err(refusal) => print_refusal(out, refusal, b' ')?,
+        Ok(()) => {
             print_count(out, numbers[0])?;
             print_count(out, numbers[1])?;
             print_count(out, numbers[2])?;
         }
     }
-    print_hex8(out, checksum(&sizes, &costs, &counts, &lits), b'\n')
+    let hash = checksum(&sizes, &costs, &counts, &lits);
+    print_hex(out, u64::from(hash), 8, b'\n')
 }
 
 // Prints who caused a refusal.
@@ -92,52 +83,32 @@ fn print_whose<W: Write>(out: &mut W, r: Refusal) -> io::Result<()> {
 }
 
 // Writes the sheet of tables, and prints the answer and a checksum of the buffer; answers how many bytes there are to read.
-fn answer<W: Write>(
-    out: &mut W,
-    sizes: &[u8],
-    costs: &[u16],
-    counts: &[u8],
-    lits: &[u8],
-    sheet: &mut [u8],
-    d: u32,
-    s: u32,
-    c: u32,
-) -> io::Result<usize>
+fn answer<W: Write>(out: &mut W, tables: &Tables, sheet: &mut [u8]) -> io::Result<usize>
     ensures { IfOk result (λ n. n ≤ 65536) }
 {
-    match write_call::write_call(sizes, costs, counts, lits, sheet, d, s, c) {
-        Written::Refused(r) => {
-            print_refusal(out, r, b' ')?;
-            print_whose(out, r)?;
-            print_hex8(out, mixed_all(CHECKSUM_START, sheet), b'\n')?;
+    match write_call::write_call(tables, sheet) {
+        Err(refusal) => {
+            print_refusal(out, refusal, b' ')?;
+            print_whose(out, refusal)?;
+            print_hex(out, u64::from(mixed_all(CHECKSUM_START, sheet)), 8, b'\n')?;
             Ok(0)
         }
-        Written::Bytes(n) => {
+        Ok(n) => {
             print_text(out, b"wrote ")?;
             print_count(out, n)?;
-            print_hex8(out, mixed_all(CHECKSUM_START, sheet), b' ')?;
+            print_hex(out, u64::from(mixed_all(CHECKSUM_START, sheet)), 8, b' ')?;
             Ok(n as usize)
         }
     }
 }
 
 // Reads the rest of a case, its buffer's length and byte; answers it, and reads back what was written.
-fn replay_on<R: Read, W: Write>(
-    input: &mut R,
-    out: &mut W,
-    sizes: &[u8],
-    costs: &[u16],
-    counts: &[u8],
-    lits: &[u8],
-    d: u32,
-    s: u32,
-    c: u32,
-) -> io::Result<()> {
-    let room = read_u16(input)?;
+fn replay_on<R: Read, W: Write>(input: &mut R, out: &mut W, tables: &Tables) -> io::Result<()> {
+    let room = usize::from(read_u16(input)?);
     let byte = read_u8(input)?;
     let mut sheet = [0u8; 65536];
-    fill(&mut sheet, byte);
-    let n = answer(out, sizes, costs, counts, lits, &mut sheet[..room], d, s, c)?;
+    sheet.fill(byte);
+    let n = answer(out, tables, &mut sheet[..room])?;
     if n > 0 {
         read_back(out, &sheet[..n])?;
     }
@@ -148,35 +119,34 @@ fn replay_on<R: Read, W: Write>(
 fn read_bytes<R: Read>(input: &mut R, bytes: &mut [u8; 65536]) -> io::Result<usize>
     ensures { IfOk result (λ n. n ≤ 65536) }
 {
-    let length = read_u16(input)?;
+    let length = usize::from(read_u16(input)?);
     read_block(input, bytes, length)
 }
 
 // Reads one case and answers it.
 fn replay<R: Read, W: Write>(input: &mut R, out: &mut W) -> io::Result<()> {
-    let d = read_u32(input)?;
-    let s = read_u32(input)?;
-    let c = read_u32(input)?;
+    let decisions = read_u32(input)?;
+    let states = read_u32(input)?;
+    let clauses = read_u32(input)?;
     let mut sizes = [0u8; 65536];
     let sizes_len = read_bytes(input, &mut sizes)?;
     let mut costs = [0u16; 65536];
-    let costs_len = read_u16(input)?;
-    read_costs(input, &mut costs, costs_len)?;
+    let costs_len = usize::from(read_u16(input)?);
+    read_costs(input, &mut costs[..costs_len])?;
     let mut counts = [0u8; 65536];
     let counts_len = read_bytes(input, &mut counts)?;
     let mut lits = [0u8; 65536];
     let lits_len = read_bytes(input, &mut lits)?;
-    replay_on(
-        input,
-        out,
-        &sizes[..sizes_len],
-        &costs[..costs_len],
-        &counts[..counts_len],
-        &lits[..lits_len],
-        d,
-        s,
-        c,
-    )
+    let tables = Tables {
+        decisions,
+        states,
+        clauses,
+        sizes: &sizes[..sizes_len],
+        costs: &costs[..costs_len],
+        counts: &counts[..counts_len],
+        lits: &lits[..lits_len],
+    };
+    replay_on(input, out, &tables)
 }
 
 // Reads the number of cases, and replays each.

@@ -3,17 +3,17 @@
 #![tactic(auto)]
 
 use answers::print_refusal;
-use conflict_call::{ReduceAnswer, TestAnswer};
-use printing::{print_hex8, print_hex16, print_number, print_text};
-use refusal::Refusal;
+use conflict_call::Reduction;
+use printing::{print_hex, print_number, print_text};
 use std::io;
 use std::io::{Read, Write};
+use trials::Answer;
 use vectors::{CHECKSUM_START, mixed_all, read_block, read_u8, read_u16, read_u32, read_u64};
 
 // Prints a word, the trials and the byte that follows them.
 fn tried<W: Write>(out: &mut W, word: &[u8], trials: u32, after: u8) -> io::Result<()> {
     print_text(out, word)?;
-    print_number(out, trials as u64, after)
+    print_number(out, u64::from(trials), after)
 }
 
 // Tests and prints the answer and the checksum.
@@ -22,12 +22,13 @@ fn test<W: Write>(out: &mut W, sheet: &[u8], mask: u64, values: u64, limit: u32)
     let answer = test.answer;
     let shown = test.values;
     match answer {
-        TestAnswer::Refused(r) => print_refusal(out, r, b' ')?,
-        TestAnswer::Consistent(t) => tried(out, b"consistent ", t, b' ')?,
-        TestAnswer::Inconsistent(t) => tried(out, b"inconsistent ", t, b' ')?,
-        TestAnswer::Spent(t) => tried(out, b"spent ", t, b' ')?,
+        Err(refusal) => print_refusal(out, refusal, b' ')?,
+        Ok(Answer::Consistent(t)) => tried(out, b"consistent ", t, b' ')?,
+        Ok(Answer::Inconsistent(t)) => tried(out, b"inconsistent ", t, b' ')?,
+        Ok(Answer::Spent(t)) => tried(out, b"spent ", t, b' ')?,
     }
-    print_hex8(out, mixed_all(CHECKSUM_START, &shown), b'\n')
+    let hash = mixed_all(CHECKSUM_START, &shown);
+    print_hex(out, u64::from(hash), 8, b'\n')
 }
 
 // Reduces and prints the answer.
@@ -39,14 +40,14 @@ fn reduce<W: Write>(
     limit: u32,
 ) -> io::Result<()> {
     match conflict_call::reduce_call(sheet, mask, values, limit) {
-        ReduceAnswer::Refused(r) => print_refusal(out, r, b'\n'),
-        ReduceAnswer::None(t) => tried(out, b"none ", t, b'\n'),
-        ReduceAnswer::Spent(t) => tried(out, b"spent ", t, b'\n'),
-        ReduceAnswer::Conflict(m, v, t) => {
+        Err(refusal) => print_refusal(out, refusal, b'\n'),
+        Ok(Reduction::None(t)) => tried(out, b"none ", t, b'\n'),
+        Ok(Reduction::Spent(t)) => tried(out, b"spent ", t, b'\n'),
+        Ok(Reduction::Conflict(m, v, t)) => {
             print_text(out, b"conflict ")?;
-            print_hex16(out, m, b' ')?;
-            print_hex16(out, v, b' ')?;
-            print_number(out, t as u64, b'\n')
+            print_hex(out, m, 16, b' ')?;
+            print_hex(out, v, 16, b' ')?;
+            print_number(out, u64::from(t), b'\n')
         }
     }
 }
@@ -55,7 +56,7 @@ fn reduce<W: Write>(
 fn replay<R: Read, W: Write>(input: &mut R, out: &mut W) -> io::Result<()> {
     let kind = read_u8(input)?;
     let mut bytes = [0u8; 65536];
-    let length = read_u16(input)?;
+    let length = usize::from(read_u16(input)?);
     let n = read_block(input, &mut bytes, length)?;
     let mask = read_u64(input)?;
     let values = read_u64(input)?;

@@ -12,20 +12,23 @@ use Rattle.theory.specs.Tables.{plant_in}
 use Rattle.readings.specs.Lengths.{literal_bytes}
 use Rattle.sheet.specs.Tables.{Held}
 use Rattle.sheet.specs.Answers.{answer_of, Tabled}
-use Rattle.sheet.specs.declared.Answer.{Answer}
+use Rattle.std.specs.Prelude.{Result, Ok, Err}
+use Rattle.refusal.specs.declared.AuthorGround.{AuthorGround}
+use Rattle.refusal.specs.Refusal.{author_number}
+use Rattle.sheet.specs.declared.Numbers.{Numbers}
 
-module _ (edition : Edition) (sheet sizes costs counts lits : List ℕ) {r : Answer} where
-  pub refused-by : {n : ℕ} → r ≡ Answer.Refused n → answer_of sheet sizes costs counts lits r ≡ read_sheet edition sheet → read_sheet edition sheet ≡ refused n
+module _ (edition : Edition) (sheet sizes costs counts lits : List ℕ) {r : Result Numbers AuthorGround} where
+  pub refused-by : {g : AuthorGround} → r ≡ Err g → answer_of sheet sizes costs counts lits r ≡ read_sheet edition sheet → read_sheet edition sheet ≡ refused (author_number g)
   refused-by e h = sym h ∙ ap (answer_of sheet sizes costs counts lits) e
 
-  module _ {d s c : ℕ} (e : r ≡ Answer.Counts d s c) (h : answer_of sheet sizes costs counts lits r ≡ read_sheet edition sheet) where
-    pub read_as : read_sheet edition sheet ≡ got (plant_in d s c sizes costs counts lits) (8 * length sheet)
+  module _ {n : Numbers} (e : r ≡ Ok n) (h : answer_of sheet sizes costs counts lits r ≡ read_sheet edition sheet) where
+    pub read_as : read_sheet edition sheet ≡ got (plant_in n.decisions n.states n.clauses sizes costs counts lits) (8 * length sheet)
     read_as = sym h ∙ ap (answer_of sheet sizes costs counts lits) e
 
-    pub read-accepted : Accepted edition (plant_in d s c sizes costs counts lits)
-    read-accepted = (accepted_of edition sheet (plant_in d s c sizes costs counts lits) (8 * length sheet) read_as).0
+    pub read-accepted : Accepted edition (plant_in n.decisions n.states n.clauses sizes costs counts lits)
+    read-accepted = (accepted_of edition sheet (plant_in n.decisions n.states n.clauses sizes costs counts lits) (8 * length sheet) read_as).0
 
-pub read_held : (sizes costs counts lits : List ℕ) {r : Answer} {d s c : ℕ} → r ≡ Answer.Counts d s c → Tabled sizes costs counts lits r → Held d s c sizes costs counts lits
+pub read_held : (sizes costs counts lits : List ℕ) {r : Result Numbers AuthorGround} {n : Numbers} → r ≡ Ok n → Tabled sizes costs counts lits r → Held n.decisions n.states n.clauses sizes costs counts lits
 read_held sizes costs counts lits e h = subst (Tabled sizes costs counts lits) e h
 
 -- the literals are there

@@ -1,4 +1,4 @@
-pub mod Laws
 pub mod Ways
 pub mod Whole
 pub mod Held
+pub mod Reading

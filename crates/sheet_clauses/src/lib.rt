@@ -1,109 +1,89 @@
 // The clauses of a plant sheet: from the sheet's bits to the tables of literal counts and literals.
 #![tactic(auto)]
 
-ghost use Rattle.std.specs.Prelude.{◌≡◌, ◌+◌, ◌*◌, ◌≤◌, ◌<◌, ◌^◌, length, take};
+ghost use Rattle.std.specs.Prelude.{◌≡◌, ◌+◌, ◌*◌, ◌≤◌, ◌<◌, ◌^◌, length, take, IfOk};
 ghost use Rattle.model.specs.Sheet.{many, read_literal, read_clause};
 ghost use Rattle.model.specs.Tables.{literals, clauses as clausesIn, total};
 ghost use Rattle.theory.specs.Longest.{literal_bits, clause_bits};
 ghost use Rattle.readings.specs.Lengths.{clause_bytes, count_entries, literal_bytes};
-ghost use Rattle.readings.specs.Answers.{step_of, Onward, item_of, Within};
+ghost use Rattle.readings.specs.Answers.{read_of};
 ghost use Rattle.sheet_clauses.specs.Literal.{lit_of};
 
-use bits::Field;
-use readings::{Item, LITERAL_BITS, Step};
+use bits::Reader;
+use readings::COUNT_BITS;
+use refusal::AuthorGround;
 
-// A literal's variable, sign and value, or a refusal.
+// A literal as its three bytes in the table.
 #[derive(Clone, Copy)]
-pub enum Lit {
-    Is(u8, u8, u8),
-    Refused(u32),
+pub struct Literal {
+    pub variable: u8,
+    pub sign: u8,
+    pub value: u8,
 }
 
 // Reads one literal over the domains.
-fn literal(sheet: &[u8], place: usize, domains: &[u8]) -> Lit
-    requires { place + literal_bits < 2 ^ 64 }
-    ensures { lit_of (place + literal_bits) result ≡ read_literal sheet.now domains.now place }
+#[tactic(auto, unfolding(model::specs::Sheet::read_literal, model::specs::Sheet::then))]
+fn literal_at(reader: &mut Reader, domains: &[u8]) -> Result<Literal, AuthorGround>
+    requires { reader.old.place + literal_bits < 2 ^ 64 }
+    ensures sheet { reader.new.sheet ≡ reader.old.sheet }
+    ensures place { reader.new.place ≤ reader.old.place + literal_bits }
+    ensures read { lit_of reader.new.place result ≡ read_literal reader.old.sheet.now domains.now reader.old.place }
 {
-    let fields = bits::three(sheet, place, 6, 1, 4);
-    let first = fields.first;
-    let Field::Value(variable) = first else {
-        return Lit::Refused(5);
-    };
+    let variable = readings::field(reader, 6)?;
     let v = variable as usize;
     if v >= domains.len() {
-        return Lit::Refused(10);
+        return Err(AuthorGround::SheetVariable);
     }
-    let second = fields.second;
-    let Field::Value(sign) = second else {
-        return Lit::Refused(5);
-    };
-    let third = fields.third;
-    let Field::Value(value) = third else {
-        return Lit::Refused(5);
-    };
-    let x = value as u8;
-    if x >= domains[v] {
-        return Lit::Refused(11);
+    let sign = readings::field(reader, 1)?;
+    let value = readings::field(reader, 4)? as u8;
+    if value >= domains[v] {
+        return Err(AuthorGround::SheetValue);
     }
-    Lit::Is(variable as u8, sign as u8, x)
+    Ok(Literal {
+        variable: variable as u8,
+        sign: sign as u8,
+        value,
+    })
 }
 
-// Reads one clause over the domains: its literals go to the front of the part that is lent.
-fn clause(sheet: &[u8], place: usize, domains: &[u8], lits: &mut [u8]) -> Item
-    requires { (place + clause_bits < 2 ^ 64) × (clause_bytes ≤ length lits.old) }
-    ensures { (item_of (λ n. literals (take (3 * n) lits.new)) result ≡ read_clause sheet.now domains.now place) × Within 15 (place + clause_bits) result }
+// Reads one clause over the domains: its literals go to the front of the part that is lent, three bytes each, by index.
+#[tactic(auto, unfolding(model::specs::Sheet::read_clause, model::specs::Sheet::then))]
+fn clause(reader: &mut Reader, domains: &[u8], lits: &mut [u8]) -> Result<u8, AuthorGround>
+    requires { (reader.old.place + clause_bits < 2 ^ 64) × (clause_bytes ≤ length lits.old) }
+    ensures sheet { reader.new.sheet ≡ reader.old.sheet }
+    ensures place { reader.new.place ≤ reader.old.place + clause_bits }
+    ensures count { IfOk result (λ n. n ≤ 15) }
+    ensures read { read_of (λ n. literals (take (3 * n) lits.new)) reader.new.place result ≡ read_clause reader.old.sheet.now domains.now reader.old.place }
 {
-    let Field::Value(n) = bits::field_at(sheet, place, 4) else {
-        return Item::Refused(5);
-    };
-    let count = n as usize;
-    let mut at = place + 4;
-    let mut i = 0;
-    while i < count {
-        match literal(sheet, at, domains) {
-            Lit::Refused(n) => {
-                return Item::Refused(n);
-            }
-            Lit::Is(v, s, x) => {
-                lits[3 * i] = v;
-                lits[3 * i + 1] = s;
-                lits[3 * i + 2] = x;
-            }
-        }
-        at += LITERAL_BITS;
-        i += 1;
+    let count = readings::field(reader, COUNT_BITS)? as u8;
+    for i in 0..usize::from(count) {
+        let one = literal_at(reader, domains)?;
+        lits[3 * i] = one.variable;
+        lits[3 * i + 1] = one.sign;
+        lits[3 * i + 2] = one.value;
     }
-    Item::Got(count, at)
+    Ok(count)
 }
 
 // Reads the c clauses over the domains.
 pub fn clauses(
-    sheet: &[u8],
-    place: usize,
+    reader: &mut Reader,
     c: usize,
     domains: &[u8],
     counts: &mut [u8],
     lits: &mut [u8],
-) -> Step
-    requires { (place + clause_bits * c < 2 ^ 64) × (c ≤ 512) × (count_entries ≤ length counts.old) × (literal_bytes ≤ length lits.old) }
-    ensures { (step_of (clausesIn (take c counts.new) lits.new) result ≡ many (read_clause sheet.now domains.now) c place)
-        × Onward (λ after. (after ≤ place + clause_bits * c) × (3 * total (take c counts.new) ≤ clause_bytes * c)) result }
+) -> Result<(), AuthorGround>
+    requires { (reader.old.place + clause_bits * c < 2 ^ 64) × (c ≤ 512) × (count_entries ≤ length counts.old) × (literal_bytes ≤ length lits.old) }
+    ensures sheet { reader.new.sheet ≡ reader.old.sheet }
+    ensures place { reader.new.place ≤ reader.old.place + clause_bits * c }
+    ensures room { IfOk result (λ _. 3 * total (take c counts.new) ≤ clause_bytes * c) }
+    ensures read { read_of (λ _. clausesIn (take c counts.new) lits.new) reader.new.place result ≡ many (read_clause reader.old.sheet.now domains.now) c reader.old.place }
 {
-    let mut at = place;
     let mut from = 0;
-    let mut i = 0;
-    while i < c {
-        match clause(sheet, at, domains, &mut lits[from..]) {
-            Item::Refused(n) => {
-                return Step::Refused(n);
-            }
-            Item::Got(n, after) => {
-                counts[i] = n as u8;
-                from += 3 * n;
-                at = after;
-            }
-        }
-        i += 1;
+    let counts = &mut counts[..c];
+    for count in counts.iter_mut() {
+        *count = clause(reader, domains, &mut lits[from..])?;
+        from += 3 * usize::from(*count);
     }
-    Step::Next(at)
+    Ok(())
 }

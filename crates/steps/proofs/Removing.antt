@@ -1,12 +1,13 @@
 -- What step 3 makes of the words is what it makes of the state: a node is removed. Assumes nothing.
 use mathlib.Core.Path.{◌≡◌, refl, ap, ◌∙◌}
-use mathlib.Core.Bool.{Bool, true}
+use mathlib.Core.Bool.{true}
 use mathlib.Core.List.{List, [], ◌∷◌}
 use Prim.Native.Nat.{ℕ, ◌-◌, ◌/◌, ◌≤◌, ◌<◌}
 use native.Mathlib.Omega.{arith}
 use lib.Dec.{ltb}
 use lib.ListN.{length}
 use borrow.Author.Tests.{lt-ltb, le-ltb}
+use Rattle.std.specs.declared.ops.ControlFlow.TheVariants.{Break}
 use Rattle.model.specs.Lists.{All}
 use Rattle.model.specs.Sheet.{Plant, edition_of, decision_sizes}
 use Rattle.model.specs.Assignment.{Assignment, Valid}
@@ -23,8 +24,8 @@ use Rattle.children.specs.declared.Node.{Node}
 use Rattle.children.specs.Children.{NodeIs}
 use Rattle.judge.specs.declared.Progress.{Progress}
 use Rattle.judge.specs.declared.Ending.{Ending}
-use Rattle.judge.specs.declared.Next.{Next as After}
 use Rattle.judge.specs.Standing.{order_in, Removed, NextIs}
+use Rattle.expand.specs.declared.Query.{Query}
 use Rattle.expand.specs.Expands.{Expands, queuing}
 use Rattle.expand.proofs.Expanding.{queued-written}
 use Rattle.steps.specs.Run.{Steps}
@@ -44,15 +45,14 @@ step-expand : (p : Plant) (o : Order) {k wanted entries others : ℕ} (places li
 unfolding step remove
 step-expand p o {k} {entries = entries} places limit s n rest a b e f = rw (step, ap (remove p o k entries places limit s) f, remove, e, a, b) refl
 
-module _ {d : ℕ} {sizes prices counts lits sat uses plan : List ℕ} {weighed : Bool} {preferred k limit : ℕ} {codes values queue store : List ℕ} {g : Progress}
-    (t : Steps d sizes prices counts lits sat uses plan weighed preferred k limit codes values queue store g) where
+module _ {query : Query} {plan codes values queue store : List ℕ} {g : Progress} (t : Steps query plan codes values queue store g) where
   -- the queue has no nodes
   pub step-all : g.queued ≡ 0
-      → NextIs t.question queue store codes values (After.Ended Ending.All g) (step t.question.plant (order_in t.question) k (length queue / 2) (length store / 2) limit t.state)
+      → NextIs t.question queue store codes values (Break (record { ending = Ending.All; progress = g })) (step t.question.plant (order_in t.question) query.wanted (length queue / 2) (length store / 2) query.limit t.state)
   unfolding step remove
   step-all h =
       let p = t.question.plant in
-      rw (step, ap (remove p (order_of (edition_of weighed) p) k (length queue / 2) (length store / 2) limit t.state) (no_elements t.state.queue (t.turn.standing.holds.count ∙ h)))
+      rw (step, ap (remove p (order_of (edition_of query.weighed) p) query.wanted (length queue / 2) (length store / 2) query.limit t.state) (no_elements t.state.queue (t.turn.standing.holds.count ∙ h)))
       (refl, t.turn.standing.written)
 
   module _ (filled : 0 < g.queued) where
@@ -61,18 +61,18 @@ module _ {d : ℕ} {sizes prices counts lits sat uses plan : List ℕ} {weighed 
     front = first_element t.state.queue (omega (arith, t.turn.standing.holds.count))
 
     -- as many states are listed as are wanted
-    pub step-enough : k ≤ g.listed
-        → NextIs t.question queue store codes values (After.Ended Ending.Enough g) (step t.question.plant (order_in t.question) k (length queue / 2) (length store / 2) limit t.state)
+    pub step-enough : query.wanted ≤ g.counts.listed
+        → NextIs t.question queue store codes values (Break (record { ending = Ending.Enough; progress = g })) (step t.question.plant (order_in t.question) query.wanted (length queue / 2) (length store / 2) query.limit t.state)
     unfolding step remove
     step-enough h =
         let p = t.question.plant in
         let w = t.turn.standing.written in
-        rw (step, ap (remove p (order_of (edition_of weighed) p) k (length queue / 2) (length store / 2) limit t.state) front.2, remove, le-ltb (length t.state.listed) k (omega (arith, w.listed-is)))
+        rw (step, ap (remove p (order_of (edition_of query.weighed) p) query.wanted (length queue / 2) (length store / 2) query.limit t.state) front.2, remove, le-ltb (length t.state.listed) query.wanted (omega (arith, w.listed-is)))
         (refl, w)
 
-    module _ (wanting : g.listed < k) where
-      fewer : ltb (length t.state.listed) k ≡ true
-      fewer = lt-ltb (length t.state.listed) k (omega (arith, t.turn.standing.written.listed-is))
+    module _ (wanting : g.counts.listed < query.wanted) where
+      fewer : ltb (length t.state.listed) query.wanted ≡ true
+      fewer = lt-ltb (length t.state.listed) query.wanted (omega (arith, t.turn.standing.written.listed-is))
 
       searched : Searching t.question.plant (order_in t.question) (front.0 ∷ front.1) t.state.listed
       searched = rw front.2 at t.turn.going.kept.searching
@@ -83,14 +83,14 @@ module _ {d : ℕ} {sizes prices counts lits sat uses plan : List ℕ} {weighed 
 
       module _ (after : List ℕ) (same : length after ≡ length queue) (a b : ℕ) (node : Node)
           (popped : (ss : List ℕ) (o : Order) (n : Assignment) (rest : List Assignment) → Keyed ss o → All (Valid ss) (n ∷ rest) → Ordered o (n ∷ rest) → Holds o g.queued queue (n ∷ rest) → ((a, b) ≡ entry_of o n) × Holds o (g.queued - 1) after rest)
-          (read : (p : Plant) (n : Assignment) → Accepted (edition_of weighed) p → Valid (decision_sizes p) n → (a, b) ≡ entry_of (order_of (edition_of weighed) p) n → NodeIs weighed p n node) where
+          (read : (p : Plant) (n : Assignment) → Accepted (edition_of query.weighed) p → Valid (decision_sizes p) n → (a, b) ≡ entry_of (order_of (edition_of query.weighed) p) n → NodeIs query.weighed p n node) where
         taken_out : ((a, b) ≡ entry_of (order_in t.question) front.0) × Holds (order_in t.question) (g.queued - 1) after front.1
         taken_out =
             let ss = decision_sizes t.question.plant in
-            popped ss (order_in t.question) front.0 front.1 (suits_keyed ss (order_in t.question) (edition-suits weighed t.question.plant t.tables.accepted)) searched.valid searched.ordered (rw front.2 at t.turn.standing.holds)
+            popped ss (order_in t.question) front.0 front.1 (suits_keyed ss (order_in t.question) (edition-suits query.weighed t.question.plant t.tables.accepted)) searched.valid searched.ordered (rw front.2 at t.turn.standing.holds)
 
         -- what the words stand for without it
-        pub left : Removed t.question limit after store codes values one_less node
+        pub left : Removed t.question query.limit after store codes values one_less node
         left =
             let w = t.turn.standing.written in
             record {
@@ -113,11 +113,11 @@ module _ {d : ℕ} {sizes prices counts lits sat uses plan : List ℕ} {weighed 
               wanting = omega (arith, w.listed-is, t.asked);
             }
 
-        abbrev pub removes : Expands d sizes prices counts lits sat uses plan weighed preferred limit codes values after store one_less node
+        abbrev pub removes : Expands query plan codes values after store one_less node
         removes = record { question = t.question; tables = t.tables; taken = left }
 
         -- the rest of the step is the model's
-        pub step-removed : expand t.question.plant (order_in t.question) t.question.wanted (length after / 2) (length store / 2) limit left.state left.rest left.parent
-            ≡ step t.question.plant (order_in t.question) k (length queue / 2) (length store / 2) limit t.state
+        pub step-removed : expand t.question.plant (order_in t.question) t.question.wanted (length after / 2) (length store / 2) query.limit left.state left.rest left.parent
+            ≡ step t.question.plant (order_in t.question) query.wanted (length queue / 2) (length store / 2) query.limit t.state
         unfolding left
-        step-removed = step-expand t.question.plant (order_in t.question) (length store / 2) limit t.state front.0 front.1 t.asked (ap (λ (l : ℕ). l / 2) same) fewer front.2
+        step-removed = step-expand t.question.plant (order_in t.question) (length store / 2) query.limit t.state front.0 front.1 t.asked (ap (λ (l : ℕ). l / 2) same) fewer front.2

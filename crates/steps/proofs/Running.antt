@@ -5,6 +5,7 @@ use mathlib.Core.List.{List, [], ◌∷◌}
 use Prim.Native.Nat.{ℕ, zero, suc, ◌/◌, ◌≤◌, ◌<◌, ◌+◌}
 use native.Mathlib.Omega.{arith}
 use lib.ListN.{length, take}
+use Rattle.std.specs.declared.ops.ControlFlow.TheVariants.{Continue, Break}
 use Rattle.plan.specs.Plans.{plan_words}
 use Rattle.model.specs.Lists.{All}
 use Rattle.model.specs.Sheet.{Plant, edition1, edition_of, decision_sizes}
@@ -29,9 +30,9 @@ use Rattle.queue.proofs.EntryLaws.{values_in, node-back}
 use Rattle.queue.proofs.Callers.{edition-suits}
 use Rattle.children.proofs.Numbers.{weighed-is}
 use Rattle.judge.specs.declared.Progress.{Progress}
-use Rattle.judge.specs.declared.Ending.{Ending as Ended}
-use Rattle.judge.specs.declared.Next.{Next as After}
-use Rattle.judge.specs.Standing.{Question, order_in, Turn, NextIs}
+use Rattle.judge.specs.declared.Finished.{Finished}
+use Rattle.judge.specs.Standing.{Question, order_in, Turn, After, NextIs}
+use Rattle.expand.specs.declared.Query.{Query}
 use Rattle.steps.specs.Run.{Steps, FinishedAs}
 
 -- ---- what an accepted plant's tables give
@@ -74,16 +75,15 @@ pub record Reached {weighed : Bool} (q : Question weighed) (k limit : ℕ) (whol
   pub enough : weights (decision_sizes q.plant) state.queue < left
   pub same : whole ≡ run q.plant (order_in q) k (length queue / 2) (length store / 2) limit left state
 
-module _ {d : ℕ} {sizes prices counts lits sat uses plan : List ℕ} {weighed : Bool} {preferred k limit : ℕ} {codes values queue store : List ℕ} {g : Progress}
-    (t : Steps d sizes prices counts lits sat uses plan weighed preferred k limit codes values queue store g) where
+module _ {query : Query} {plan codes values queue store : List ℕ} {g : Progress} (t : Steps query plan codes values queue store g) where
   -- at first
   pub reached-start : (fuel : ℕ) → weights (decision_sizes t.question.plant) t.state.queue < fuel
-      → Reached t.question k limit (run t.question.plant (order_in t.question) k (length queue / 2) (length store / 2) limit fuel t.state) queue store codes values g
+      → Reached t.question query.wanted query.limit (run t.question.plant (order_in t.question) query.wanted (length queue / 2) (length store / 2) query.limit fuel t.state) queue store codes values g
   reached-start fuel h = record { state = t.state; left = fuel; turn = t.turn; enough = h; same = refl }
 
   -- a turn may begin
   abbrev pub reached-steps : {whole : Next} {plan' codes' values' queue' store' : List ℕ} {g' : Progress} → length plan' ≡ plan_words
-      → Reached t.question k limit whole queue' store' codes' values' g' → Steps d sizes prices counts lits sat uses plan' weighed preferred k limit codes' values' queue' store' g'
+      → Reached t.question query.wanted query.limit whole queue' store' codes' values' g' → Steps query plan' codes' values' queue' store' g'
   reached-steps l r = record {
     question = t.question;
     state = r.state;
@@ -110,17 +110,16 @@ module _ {weighed : Bool} {q : Question weighed} {k limit : ℕ} {whole : Next} 
       go (suc n) l = rw (run, h)
 
   module _ (queue' store' codes' values' : List ℕ) where
-    pub reached-end : {x : After} (ending : Ended) (last : Progress) → x ≡ After.Ended ending last → NextIs q queue' store' codes' values' x stepped
-        → FinishedAs q store' codes' values' (record { ending = ending; progress = last }) whole
-    reached-end ending last f n = go stepped refl (rw f at n)
+    pub reached-end : {x : After} (f : Finished) → x ≡ Break f → NextIs q queue' store' codes' values' x stepped → FinishedAs q store' codes' values' f whole
+    reached-end f e n = go stepped refl (rw e at n)
       where
-        go : (x : Next) → stepped ≡ x → NextIs q queue' store' codes' values' (After.Ended ending last) x → FinishedAs q store' codes' values' (record { ending = ending; progress = last }) whole
+        go : (x : Next) → stepped ≡ x → NextIs q queue' store' codes' values' (Break f) x → FinishedAs q store' codes' values' f whole
         go (ended e s) h n = record { state = s; ends = run-ended e s h ∙ ap (λ (f : Ending). ended f s) (sym n.0); written = n.1 }
         go (more s) h n = absurd n
 
     -- a step after which it goes on, with a lighter queue
     pub reached-next : {d : ℕ} {sizes prices counts lits : List ℕ} {x : After} → Tabled q.plant d sizes prices counts lits → Accepted (edition_of weighed) q.plant → q.wanted ≡ k
-        → length queue' ≡ length queue → length store' ≡ length store → (next : Progress) → x ≡ After.More next → NextIs q queue' store' codes' values' x stepped
+        → length queue' ≡ length queue → length store' ≡ length store → (next : Progress) → x ≡ Continue next → NextIs q queue' store' codes' values' x stepped
         → Reached q k limit whole queue' store' codes' values' next × (queue_weight weighed (take d sizes) next.queued queue' < queue_weight weighed (take d sizes) g.queued queue)
     unfolding run
     reached-next {d} {sizes} t ok asked le ls next f n = go stepped refl (rw f at n) again
@@ -144,7 +143,7 @@ module _ {weighed : Bool} {q : Question weighed} {k limit : ℕ} {whole : Next} 
         on s h l zero m = absurd (omega arith)
         on s h l (suc left) m = (left, omega arith, rw (run, h))
 
-        go : (x : Next) → stepped ≡ x → NextIs q queue' store' codes' values' (After.More next) x → Stepped q.plant (order_in q) k limit r.turn.survivors (length queue / 2) r.state x
+        go : (x : Next) → stepped ≡ x → NextIs q queue' store' codes' values' (Continue next) x → Stepped q.plant (order_in q) k limit r.turn.survivors (length queue / 2) r.state x
             → Reached q k limit whole queue' store' codes' values' next × (queue_weight weighed (take d sizes) next.queued queue' < queue_weight weighed (take d sizes) g.queued queue)
         go (ended e s) h n a = absurd n
         go (more s) h n a =

@@ -5,8 +5,9 @@ use Prim.Native.Nat.{ℕ, zero, suc, ◌+◌, ◌-◌, ◌*◌, ◌≤◌, ◌<�
 use native.Mathlib.Omega.{arith}
 use native.Mathlib.Nat.{sub-zero, zero-sub, suc-sub-suc}
 use native.Mathlib.Numerals.{add-one}
-use lib.ListN.{length, get_or, take, drop, set, replicate, length-set}
-use lib.Seq.{length-take-le, take-suc, take-suc-set, take_all, take_at, append_snoc, set_at, get_or_at}
+use lib.ListN.{length, get_or, take, drop, set, replicate, drop_of_length-le}
+use lib.Seq.{length-take-le, take-suc, take_all, take_at, set_at, get_or_at}
+use borrow.Rule.Slice.PartMut.{mid_of, post_of, put_mid, mid_len, Post-is}
 use Rattle.model.specs.Lists.{filled}
 use Rattle.model.specs.Assignment.{Assignment, mask_of, values_of}
 use Rattle.model.specs.Calls.{entry_words}
@@ -16,20 +17,6 @@ use Rattle.store.proofs.Entries.{words_length, words_append, entry-words, from-e
 use Rattle.store.proofs.Callers.{keeps-room}
 
 -- ---- zeros from a place on
-
-abbrev pub zeroed : ℕ → List ℕ → List ℕ
-zeroed i xs = take i xs ++ replicate (length xs - i) 0
-
-module _ (xs : List ℕ) (i : ℕ) where
-  pub zero-step : i < length xs → zeroed (i + 1) (set xs i 0) ≡ zeroed i xs
-  zero-step h =
-      let e : length xs - i ≡ suc (length xs - suc i) = omega arith in
-      rw (add-one i, take-suc-set xs i 0 h, length-set xs i 0, e) (append_snoc (take i xs) 0 (replicate (length xs - suc i) 0))
-
-  pub zero-end : length xs ≤ i → zeroed i xs ≡ xs
-  zero-end h =
-      let e : length xs - i ≡ 0 = omega arith in
-      rw (take_all i xs h, e) (append-nil xs)
 
 zeros-from : (i n : ℕ) → drop {A = ℕ} i (replicate n 0) ≡ replicate (n - i) 0
 zeros-from zero n = rw (sub-zero n)
@@ -82,7 +69,12 @@ module _ {d : ℕ} {words : List ℕ} {m : ℕ} {conflicts : List Assignment} (k
   narrow-end i e = rw (e, take_all m conflicts (omega (arith, k.count)), entry_length, entry-words conflicts)
 
   -- zeros behind the entries
-  pub zeroed-behind : (others : List ℕ) → length others ≡ length words → others ≡ filled (entry_words conflicts) words
-      → zeroed (2 * m) others ≡ filled (entry_words conflicts) (replicate (length words) 0)
-  zeroed-behind others l e =
-      rw (l, e, zeros-from (length (entry_words conflicts)) (length words), entry_length, take_at (entry_words conflicts) (drop (2 * m) words) (2 * m) entry_length)
+  pub zeroed-behind : (others zeros : List ℕ) → length others ≡ length words → others ≡ filled (entry_words conflicts) words
+      → zeros ≡ replicate (length (mid_of (2 * m) (length others - 2 * m) others)) 0
+      → put_mid (2 * m) (length others - 2 * m) others zeros ≡ filled (entry_words conflicts) (replicate (length words) 0)
+  zeroed-behind others zeros l e z =
+      let room : 2 * m ≤ length others = omega (arith, keeps-room k) in
+      let long : length (mid_of (2 * m) (length others - 2 * m) others) ≡ length words - 2 * m = mid_len (2 * m) (length others) others (omega arith) ∙ ap (λ (n : ℕ). n - 2 * m) l in
+      let last : post_of (2 * m) (length others - 2 * m) others ≡ [] = Post-is (2 * m) (length others) others room ∙ drop_of_length-le others {i = length others} (omega arith) in
+      rw (z, long, last, append-nil {A = ℕ}, e, zeros-from (length (entry_words conflicts)) (length words), entry_length)
+      (ap (λ (front : List ℕ). front ++ replicate (length words - 2 * m) 0) (take_at (entry_words conflicts) (drop (2 * m) words) (2 * m) entry_length))

@@ -1,10 +1,11 @@
 -- What a store's words mean: the conflicts that they keep, and the conflict that a scan finds. Assumes nothing: these are definitions.
-use Rattle.std.specs.Prelude.{◌≡◌, List, [], ◌∷◌, ℕ, ◌*◌, ◌≤◌, length, take}
-use Rattle.std.proofs.Math.Option.{Option, none, some}
+use Rattle.std.specs.Prelude.{◌≡◌, Bool, true, false, Option, None, Some, IfSome, unwrap_or, List, [], ◌∷◌, ℕ, ◌+◌, ◌*◌, ◌<◌, ◌≤◌, length, get_or, take}
+use Rattle.std.proofs.Math.Option.{Option as Maybe, none, some}
 use Rattle.model.specs.Lists.{All}
 use Rattle.model.specs.Assignment.{Assignment, Under, mask_of, values_of}
 use Rattle.theory.specs.Words.{Words, wide_of}
-use Rattle.store.specs.declared.Unresolved.{Unresolved}
+use Rattle.words.specs.declared.Pair.{Pair}
+use Rattle.words.specs.declared.WidePair.{WidePair}
 
 -- an assignment to d variables with values below 16
 abbrev pub Over : ℕ → Assignment → Type 0
@@ -27,6 +28,15 @@ pub record Keeps (d : ℕ) (words : List ℕ) (m : ℕ) (conflicts : List Assign
   pub same : take (2 * m) words ≡ words_by wide_mask conflicts
 
 -- an answer tells the first unresolved conflict: by its two words, or that there is none
-abbrev pub Tells : Unresolved → Option Assignment → Type 0
-Tells (Unresolved.At mask values) first = (c : Assignment) × (first ≡ some c) × Words c mask values
-Tells Unresolved.Nothing first = first ≡ none
+abbrev pub Tells : Option Pair → Maybe Assignment → Type 0
+Tells (Some found) first = (c : Assignment) × (first ≡ some c) × Words c found.mask found.values
+Tells None first = first ≡ none
+
+-- the two words at place i
+abbrev pub pair_at : List ℕ → ℕ → WidePair
+pair_at words i = record { mask = get_or words (2 * i) 0; values = get_or words (2 * i + 1) 0 }
+
+-- an answer is the first of m places where a test gives true, or none where it gives false at each
+pub record FirstOf (m : ℕ) (gives : ℕ → Bool → Type 0) (found : Option ℕ) : Type 0 where
+  pub before : (i : ℕ) → i < unwrap_or found m → gives i false
+  pub there : IfSome found (λ i. (i < m) × gives i true)

@@ -5,106 +5,102 @@
 // conflicts over d variables; for every such list each answer is an equation with the model.
 #![tactic(auto)]
 
-ghost use Rattle.std.specs.Prelude.{◌≡◌, false, List, [], ◌∷◌, ◌++◌, ℕ, ◌+◌, ◌*◌, ◌≤◌, ◌<◌, length, get_or, take, drop, replicate};
-ghost use Rattle.model.specs.Lists.{filled, any_of};
+ghost use Rattle.std.specs.Prelude.{◌≡◌, false, List, [], ◌∷◌, ◌++◌, ℕ, ◌+◌, ◌*◌, ◌≤◌, ◌<◌, length, get_or, drop, replicate};
+ghost use Rattle.model.specs.Lists.{filled};
 ghost use Rattle.model.specs.Assignment.{Assignment};
-ghost use Rattle.model.specs.Conflict.{manifests};
 ghost use Rattle.model.specs.Listing.{manifests_any, first_unresolved};
 ghost use Rattle.model.specs.Calls.{entry_words};
 ghost use Rattle.theory.specs.Words.{Words, Wide};
-ghost use Rattle.store.specs.Store.{Keeps, Tells};
+ghost use Rattle.store.specs.Store.{Keeps, Tells, pair_at, FirstOf};
 
-use words::Pair;
+use words::{Pair, WidePair};
 
-// The entries that are compared between two tests of a scan.
-pub const BLOCK: usize = 8;
-
-// The mask and the values of the first conflict that a node does not resolve, if there is one.
-#[derive(Clone, Copy)]
-pub enum Unresolved {
-    At(u64, u64),
-    Nothing,
-}
+// The entries that are tested between two branches of a scan.
+const BLOCK: usize = 8;
 
 // The entry at place i.
-pub fn entry_at(store: &[u64], i: usize) -> Pair
+pub fn entry_at(store: &[u64], i: usize) -> WidePair
     requires { 2 * i + 2 ≤ length store.now }
     ensures { (result.mask ≡ get_or store.now (2 * i) 0) × (result.values ≡ get_or store.now (2 * i + 1) 0) }
 {
-    Pair {
+    WidePair {
         mask: store[2 * i],
         values: store[2 * i + 1],
     }
 }
 
-// Whether a node, given by its values and its widened mask, contains the conflict at place i.
-fn manifests_at(store: &[u64], i: usize, values: u64, wide: u64) -> bool
-    requires { 2 * i + 2 ≤ length store.now }
-    ensures { (d m : ℕ) (conflicts : List Assignment) (n : Assignment) → Keeps d store.now m conflicts → i < m → Wide n wide values → length n ≡ d
-        → result ≡ manifests n (get_or conflicts i []) }
+// Whether one of the four entries from place i on passes the test.
+fn one_of_four<F: Fn(WidePair) -> bool>(store: &[u64], i: usize, passes: &F) -> bool
+    requires inside { 2 * i + 8 ≤ length store.now }
+    requires callable { F.IsAlwaysCallable passes.now }
+    ensures { result ≡ false → (k : ℕ) → k < 4 → F.post passes.now (pair_at store.now (i + k)) false }
 {
-    let e = entry_at(store, i);
-    words::manifests(values, wide, e.values, e.mask)
+    passes(entry_at(store, i))
+        | passes(entry_at(store, i + 1))
+        | passes(entry_at(store, i + 2))
+        | passes(entry_at(store, i + 3))
 }
 
-// Whether it contains one of the four conflicts from place i on.
-fn four_manifest(store: &[u64], i: usize, values: u64, wide: u64) -> bool
-    requires { 2 * i + 8 ≤ length store.now }
-    ensures { (d m : ℕ) (conflicts : List Assignment) (n : Assignment) → Keeps d store.now m conflicts → i + 4 ≤ m → Wide n wide values → length n ≡ d
-        → result ≡ any_of (manifests n) (take 4 (drop i conflicts)) }
-{
-    manifests_at(store, i, values, wide)
-        | manifests_at(store, i + 1, values, wide)
-        | manifests_at(store, i + 2, values, wide)
-        | manifests_at(store, i + 3, values, wide)
-}
-
-// A place up to which the node contains none of the m conflicts: that of the first eight of which it contains one, or of the last few.
-fn unmanifested_blocks(store: &[u64], m: usize, values: u64, wide: u64) -> usize
-    requires { 2 * m ≤ length store.now }
+// A place before which no entry passes the test: that of the first eight with one that does, or of the last few.
+fn blocks_without<F: Fn(WidePair) -> bool>(store: &[u64], m: usize, passes: &F) -> usize
+    requires inside { 2 * m ≤ length store.now }
+    requires callable { F.IsAlwaysCallable passes.now }
     ensures few { result ≤ m }
-    ensures none { (d : ℕ) (conflicts : List Assignment) (n : Assignment) → Keeps d store.now m conflicts → Wide n wide values → length n ≡ d
-        → any_of (manifests n) (take result conflicts) ≡ false }
+    ensures none { (i : ℕ) → i < result → F.post passes.now (pair_at store.now i) false }
 {
-    let mut at = 0;
-    while at + BLOCK <= m {
-        if four_manifest(store, at, values, wide) | four_manifest(store, at + 4, values, wide) {
+    for block in 0..m / BLOCK {
+        let at = BLOCK * block;
+        if one_of_four(store, at, passes) | one_of_four(store, at + 4, passes) {
             return at;
         }
-        at += BLOCK;
     }
-    at
+    m / BLOCK * BLOCK
 }
 
-// Whether a node, given by its values and its widened mask, contains one of the m conflicts.
-pub fn manifests_any(store: &[u64], m: usize, values: u64, wide: u64) -> bool
-    requires { 2 * m ≤ length store.now }
-    ensures { (d : ℕ) (conflicts : List Assignment) (n : Assignment) → Keeps d store.now m conflicts → Wide n wide values → length n ≡ d → result ≡ manifests_any conflicts n }
+// The place of the first of the m entries from a place on that passes the test.
+fn first_from<F: Fn(WidePair) -> bool>(
+    store: &[u64],
+    from: usize,
+    m: usize,
+    passes: &F,
+) -> Option<usize>
+    requires inside { 2 * m ≤ length store.now }
+    requires callable { F.IsAlwaysCallable passes.now }
+    ensures { ((i : ℕ) → i < from → F.post passes.now (pair_at store.now i) false) → FirstOf m (λ i r. F.post passes.now (pair_at store.now i) r) result }
 {
-    let mut i = unmanifested_blocks(store, m, values, wide);
-    while i < m {
-        if manifests_at(store, i, values, wide) {
-            return true;
+    for i in from..m {
+        if passes(entry_at(store, i)) {
+            return Some(i);
         }
-        i += 1;
     }
-    false
+    None
 }
 
-// The first of the m conflicts that a node, given by its values and its widened mask, does not resolve.
-pub fn first_unresolved(store: &[u64], m: usize, values: u64, wide: u64) -> Unresolved
-    requires { 2 * m ≤ length store.now }
-    ensures { (d : ℕ) (conflicts : List Assignment) (n : Assignment) → Keeps d store.now m conflicts → Wide n wide values → length n ≡ d → Tells result (first_unresolved conflicts n) }
+// The place of the first of the m entries that passes the test.
+pub fn first_where<F: Fn(WidePair) -> bool>(store: &[u64], m: usize, passes: F) -> Option<usize>
+    requires inside { 2 * m ≤ length store.now }
+    requires callable { F.IsAlwaysCallable passes }
+    ensures { FirstOf m (λ i r. F.post passes (pair_at store.now i) r) result }
 {
-    let mut first = 0;
-    while first < m {
-        let e = entry_at(store, first);
-        if !words::resolves(values, wide, e.values, e.mask) {
-            return Unresolved::At(words::narrowed(e.mask), e.values);
-        }
-        first += 1;
-    }
-    Unresolved::Nothing
+    first_from(store, blocks_without(store, m, &passes), m, &passes)
+}
+
+// Whether a node contains one of the m conflicts.
+pub fn manifests_any(store: &[u64], m: usize, node: WidePair) -> bool
+    requires { 2 * m ≤ length store.now }
+    ensures { (d : ℕ) (conflicts : List Assignment) (n : Assignment) → Keeps d store.now m conflicts → Wide n node.mask node.values → length n ≡ d → result ≡ manifests_any conflicts n }
+{
+    first_where(store, m, |entry| node.manifests(entry)).is_some()
+}
+
+// The first of the m conflicts that a node does not resolve.
+pub fn first_unresolved(store: &[u64], m: usize, node: WidePair) -> Option<Pair>
+    requires { 2 * m ≤ length store.now }
+    ensures { (d : ℕ) (conflicts : List Assignment) (n : Assignment) → Keeps d store.now m conflicts → Wide n node.mask node.values → length n ≡ d → Tells result (first_unresolved conflicts n) }
+{
+    let first = first_from(store, 0, m, &|entry| !node.resolves(entry))?;
+    let entry = entry_at(store, first);
+    Some(entry.narrowed())
 }
 
 // Puts a conflict behind the m entries.
@@ -123,10 +119,8 @@ fn narrow_masks(store: &mut [u64], m: usize)
     requires { 2 * m ≤ length store.old }
     ensures { (d : ℕ) (conflicts : List Assignment) → Keeps d store.old m conflicts → store.new ≡ filled (entry_words conflicts) store.old }
 {
-    let mut entry = 0;
-    while entry < m {
+    for entry in 0..m {
         store[2 * entry] = words::narrowed(store[2 * entry]);
-        entry += 1;
     }
 }
 
@@ -136,9 +130,5 @@ pub fn clear_from(store: &mut [u64], m: usize)
     ensures { (d : ℕ) (conflicts : List Assignment) → Keeps d store.old m conflicts → store.new ≡ filled (entry_words conflicts) (replicate (length store.old) 0) }
 {
     narrow_masks(store, m);
-    let mut word = 2 * m;
-    while word < store.len() {
-        store[word] = 0;
-        word += 1;
-    }
+    store[2 * m..].fill(0);
 }

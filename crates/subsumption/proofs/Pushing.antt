@@ -13,6 +13,7 @@ use Rattle.model.specs.Lists.{keep_if, keep}
 use Rattle.model.specs.Assignment.{Assignment, values_of}
 use Rattle.theory.specs.Words.{Words, Wide, wide_of}
 use Rattle.theory.proofs.Lists.{all_left, all-at}
+use Rattle.words.specs.declared.WidePair.{WidePair}
 use Rattle.store.specs.Store.{Over, words_by, wide_mask, Keeps}
 use Rattle.store.proofs.Entries.{keeps_append}
 
@@ -36,8 +37,8 @@ written_behind words i j wide values h =
     drop-set-lt (2 * j) (set words (2 * i) wide) (2 * i + 1) values (omega arith) ∙ drop-set-lt (2 * j) words (2 * i) wide (omega arith)
 
 -- a conflict's mask widened, with its values, is the conflict as a scan reads it
-pub wide-words : {c : Assignment} {mask values wide : ℕ} → Words c mask values → wide ≡ wide_of mask → Wide c wide values
-wide-words {mask} w e = record { mask = mask; words = w; wide_is = e }
+pub wide-words : {c : Assignment} {mask values : ℕ} {wide : WidePair} → Words c mask values → (wide.mask ≡ wide_of mask) × (wide.values ≡ values) → Wide c wide.mask wide.values
+wide-words {mask} w e = rw e.1 (record { mask = mask; words = w; wide_is = e.0 })
 
 -- the first words of conflicts are those of the first conflicts
 words-first : (f : Assignment → ℕ) (n : ℕ) (cs : List Assignment) → take (2 * n) (words_by f cs) ≡ words_by f (take n cs)

@@ -1,40 +1,31 @@
 -- Laws of the loops that put bytes and digits from the last one back, and of the loop that counts decimal places: start, step and end of each. Assumes nothing.
 use mathlib.Core.Path.{◌≡◌, refl, sym, ◌∙◌}
-use mathlib.Core.List.{List, map}
-use Prim.Native.Nat.{ℕ, suc, ◌+◌, ◌-◌, ◌/◌, ◌%◌, ◌^◌, ◌≤◌, ◌<◌}
+use mathlib.Core.List.{List, map, append_assoc}
+use Prim.Native.Nat.{ℕ, suc, max, ◌+◌, ◌-◌, ◌*◌, ◌/◌, ◌%◌, ◌^◌, ◌≤◌, ◌<◌}
 use native.Mathlib.Omega.{arith}
-use native.Mathlib.Nat.{add-zero, sub_self, pow-zero, div-one, one-le-pow, div-eq_of_lt, div-lt_iff_lt-mul, one-mul}
+use native.Mathlib.Nat.{pow-suc, pow-le-pow_right, add-zero, sub_self, pow-zero, div-one}
 use native.Mathlib.Numerals.{add-one}
 use native.Mathlib.Decide.{dec_lt}
-use lib.ListN.{length, get_or, drop, set, length-drop, length-map}
-use lib.Seq.{drop-length, drop-cons}
+use lib.ListN.{length, take, drop, set, length-map}
+use borrow.Rule.Slice.PartMut.{put_mid, Post-is}
 use borrow.Author.Tests.{lt-ltb, le-ltb}
 use Rattle.model.specs.Digits.{digits}
 use Rattle.model.specs.Text.{digit_byte}
 use Rattle.theory.specs.Digits.{Fewest}
 use Rattle.theory.proofs.Digits.{digits_length}
 use Rattle.theory.proofs.Decimal.{next_place}
-use Rattle.theory.specs.Puts.{written}
+use Rattle.theory.specs.Puts.{written, Puts}
 use Rattle.theory.proofs.Puts.{written_none, written_back}
 
--- ---- bytes
+-- ---- a slice
 
--- the bytes from place i on are put
-abbrev pub BytesFrom : (place : ℕ) (bytes before : List ℕ) (i : ℕ) (out : List ℕ) → Type 0
-BytesFrom place bytes before i out = out ≡ written (place + i) (drop i bytes) before
-
-module _ (place : ℕ) (bytes before : List ℕ) where
-  pub bytes-start : BytesFrom place bytes before (length bytes) before
-  bytes-start = rw (drop-length bytes) (sym (written_none (place + length bytes) before))
-
-  pub bytes-step : (i : ℕ) (out : List ℕ) → 0 < i → i ≤ length bytes → place + length bytes ≤ length before → BytesFrom place bytes before i out
-      → BytesFrom place bytes before (i - 1) (set out (place + (i - 1)) (get_or bytes (i - 1) 0))
-  bytes-step i out p l h e =
-      let f : suc (i - 1) ≡ i = omega arith in
-      rw e (written_back place i (get_or bytes (i - 1) 0) (drop i bytes) (drop (i - 1) bytes) before p (omega (arith, length-drop i bytes)) (rw (drop-cons bytes (i - 1) 0 (omega arith), f)))
-
-  pub bytes-end : (i : ℕ) (out : List ℕ) → i ≤ 0 → BytesFrom place bytes before i out → out ≡ written place bytes before
-  bytes-end i out l e = let f : i ≡ 0 = omega arith in rw (f, add-zero place) at e
+-- a part of a buffer, given a text's items, holds the text
+pub puts_copied : (place : ℕ) (text before : List ℕ) → Puts place text before (place + length text) (put_mid place (place + length text - place) before text)
+unfolding written
+puts_copied place text before = record {
+  buffer = rw (Post-is place (place + length text) before (omega arith)) (sym (append_assoc (take place before) text (drop (place + length text) before)));
+  ends = refl;
+}
 
 -- ---- digits
 
@@ -75,30 +66,13 @@ module _ (place n base places : ℕ) (before : List ℕ) where
 
 -- ---- decimal places
 
--- what is left stands above these places, and no fewer hold the number
-pub record PlacesFrom (n places rest : ℕ) : Type 0 where
-  pub one : 1 ≤ places
-  pub left : rest ≡ n / 10 ^ places
-  pub least : (v : ℕ) → 1 ≤ v → n < 10 ^ v → places ≤ v
-
-pub places-start : (n : ℕ) → PlacesFrom n 1 (n / 10)
-places-start n = record { one = omega arith; left = refl; least = λ v o l. o }
-
-pub places-step : (n places rest : ℕ) → 0 < rest → PlacesFrom n places rest → PlacesFrom n (places + 1) (rest / 10)
-places-step n places rest p s = record {
+-- one place more than the power of ten that a number reaches is the fewest, where zero counts as one
+pub fewest-from_power : (n k : ℕ) → 10 ^ k ≤ max n 1 → max n 1 < 10 * 10 ^ k → Fewest 10 n (k + 1)
+fewest-from_power n k low high = record {
   one = omega arith;
-  left = rw (s.left, add-one places) (next_place 10 places n);
-  least = λ v o l. elim (dec_lt places v) [
+  holds = rw (add-one k, pow-suc 10 k) (omega arith);
+  least = λ v o l. elim (dec_lt k v) [
     | yes g ↦ omega arith
-    | no g ↦
-        let e : v ≡ places = omega (arith, s.least v o l) in
-        absurd (omega (arith, s.left, div-eq_of_lt (rw e at l)))
+    | no g ↦ absurd (omega (arith, pow-le-pow_right {n = 10} (omega arith) {i = v} {j = k} (omega arith), pow-le-pow_right {n = 10} (omega arith) {i = 1} {j = v} o))
   ];
-}
-
-pub places-end : (n places rest : ℕ) → rest ≤ 0 → PlacesFrom n places rest → Fewest 10 n places
-places-end n places rest z s = record {
-  one = s.one;
-  holds = rw (← one-mul (10 ^ places)) ((div-lt_iff_lt-mul {k = 10 ^ places} {x = n} {y = 1} (one-le-pow places 10 (omega arith))).0 (omega (arith, s.left)));
-  least = s.least;
 }

@@ -14,17 +14,14 @@ const DECIMAL: u64 = 10;
 
 const HEXADECIMAL: u64 = 16;
 
-// Puts bytes, from the last one back.
+// Puts bytes.
 pub fn put_bytes(out: &mut [u8], at: usize, bytes: &[u8]) -> usize
     requires { at + length bytes.now ≤ length out.old }
     ensures { Puts at bytes.now out.old result out.new }
 {
-    let mut i = bytes.len();
-    while i > 0 {
-        i -= 1;
-        out[at + i] = bytes[i];
-    }
-    at + bytes.len()
+    let end = at + bytes.len();
+    out[at..end].copy_from_slice(bytes);
+    end
 }
 
 // The byte of a digit: 0 to 9, then a to f.
@@ -45,26 +42,18 @@ fn put_digits(out: &mut [u8], at: usize, n: u64, base: u64, places: usize) -> us
     ensures { Puts at (map digit_byte (digits base places n)) out.old result out.new }
 {
     let mut rest = n;
-    let mut i = places;
-    while i > 0 {
-        i -= 1;
+    for i in (0..places).rev() {
         out[at + i] = digit_byte(rest % base);
         rest /= base;
     }
     at + places
 }
 
-// The fewest decimal places that hold a number.
+// The fewest decimal places that hold a number; zero has one too.
 pub fn decimal_places(n: u64) -> usize
     ensures { Fewest 10 n result }
 {
-    let mut places = 1;
-    let mut rest = n / DECIMAL;
-    while rest > 0 {
-        rest /= DECIMAL;
-        places += 1;
-    }
-    places
+    n.max(1).ilog10() as usize + 1
 }
 
 // Puts a number in decimal, without leading zeros.

@@ -1,12 +1,12 @@
 -- How the model's test ends and how the code does: from one to the other and back. Assumes nothing.
-use mathlib.Core.Path.{◌≡◌, refl}
+use mathlib.Core.Path.{◌≡◌}
 use mathlib.Core.List.{List}
-use Prim.Native.Nat.{ℕ, zero, suc, ◌+◌, ◌-◌, ◌/◌, ◌%◌, ◌<◌, ◌≤◌}
+use Prim.Native.Nat.{ℕ, ◌+◌, ◌-◌, ◌≤◌}
 use native.Mathlib.Omega.{arith}
 use Rattle.model.specs.Consistency.{Tested, consistent, inconsistent, spent}
 use Rattle.trials.specs.declared.Answer.{Answer}
 use Rattle.trials.specs.declared.Answer.TheVariants.{Consistent, Inconsistent, Spent}
-use Rattle.trials.specs.Answers.{answer_of, leaves, Ended, answer_as, trials_below, answer_in, told, trials_in}
+use Rattle.trials.specs.Answers.{answer_of, leaves, Ended, told, trials_in}
 
 module _ (e : Tested) (before after : List ℕ) (t : ℕ) where
   pub as_consistent : e ≡ consistent after t → Ended e before after (Consistent t)
@@ -51,46 +51,7 @@ module _ (e : Tested) (before after : List ℕ) (t : ℕ) where
 pub moved : (e d : Tested) (before after : List ℕ) (r : Answer) → e ≡ d → Ended d before after r → Ended e before after r
 moved e d before after r q h = record { answer = rw q h.answer; left = rw q h.left }
 
--- ---- an answer as one number
-
-module _ (t : ℕ) (h : t < trials_below) where
-  pub in_inconsistent : answer_in t ≡ Inconsistent t
-  unfolding answer_in answer_as
-  in_inconsistent =
-      let d : t / trials_below ≡ 0 = omega arith in
-      let m : t % trials_below ≡ t = omega arith in
-      rw (d, m)
-
-  pub in_consistent : answer_in (trials_below + t) ≡ Consistent t
-  unfolding answer_in answer_as
-  in_consistent =
-      let d : (trials_below + t) / trials_below ≡ 1 = omega arith in
-      let m : (trials_below + t) % trials_below ≡ t = omega arith in
-      rw (d, m)
-
-  pub in_spent : answer_in (8589934592 + t) ≡ Spent t
-  unfolding answer_in answer_as
-  in_spent =
-      let d : (8589934592 + t) / trials_below ≡ 2 = omega arith in
-      let m : (8589934592 + t) % trials_below ≡ t = omega arith in
-      rw (d, m)
-
--- and back
-pub as_rest : (k t : ℕ) → (k ≡ 0 → ⊥) → (k ≡ 1 → ⊥) → answer_as k t ≡ Spent t
-unfolding answer_as
-as_rest zero t a b = absurd (a refl)
-as_rest (suc zero) t a b = absurd (b refl)
-as_rest (suc (suc k)) t a b = refl
-
--- from there on it did not fail
-pub not_failed : (r : ℕ) → trials_below ≤ r → (n : ℕ) → answer_in r ≡ Inconsistent n → ⊥
-unfolding answer_in answer_as
-not_failed r h n e = go (r / trials_below) (omega arith) e
-  where
-    go : (k : ℕ) → 1 ≤ k → answer_as k (r % trials_below) ≡ Inconsistent n → ⊥
-    go zero l e = absurd (omega arith)
-    go (suc zero) l e = absurd (let z : ◌≡◌ {A = ℕ} 0 1 = cc in omega arith)
-    go (suc (suc k)) l e = absurd (let z : ◌≡◌ {A = ℕ} 0 1 = cc in omega arith)
+-- ---- how it did not end
 
 -- one that found values, or was stopped, did not fail
 pub not_consistent : (t n : ℕ) (r : Answer) → r ≡ Consistent t → r ≡ Inconsistent n → ⊥

@@ -1,5 +1,5 @@
 -- What the test answers, and what it leaves in the lent bytes. Assumes nothing: these are definitions.
-use Rattle.std.specs.Prelude.{◌≡◌, true, false, List, ℕ, zero, suc, ◌+◌, ◌-◌, ◌/◌, ◌%◌, length}
+use Rattle.std.specs.Prelude.{◌≡◌, true, false, List, ℕ, ◌+◌, ◌-◌, length}
 use Rattle.model.specs.Sheet.{Literal}
 use Rattle.model.specs.Assignment.{Assignment}
 use Rattle.model.specs.Consistency.{Tested, consistent, inconsistent, spent, any_false, explore}
@@ -31,21 +31,9 @@ pub record Ended (e : Tested) (before after : List ℕ) (r : Answer) : Type 0 wh
   pub answer : r ≡ answer_of e
   pub left : after ≡ leaves before e
 
--- ---- an answer as one number
-
--- how it ended, by number
-unfoldable pub answer_as : ℕ → ℕ → Answer
-answer_as zero t = Inconsistent t
-answer_as (suc zero) t = Consistent t
-answer_as (suc (suc k)) t = Spent t
-
 -- the trials of a test are fewer
 abbrev pub trials_below : ℕ
 trials_below = 4294967296
-
--- the trials in the lower half of the word, and how it ended in the upper
-unfoldable pub answer_in : ℕ → Answer
-answer_in r = answer_as (r / trials_below) (r % trials_below)
 
 -- ---- a search that counts the trials left
 

@@ -1,5 +1,6 @@
 // The listing call on a sheet of edition 2 and lent buffers, whatever these are: what `listing_call` does for a sheet with
-// costs, for one with weights. The products of the listed states stand where costs do, the greatest first.
+// costs, for one with weights. The products of the listed states stand where costs do, the greatest first. Both calls are
+// `list_codes`; what each adds is the type of its figures, which its contract reads as numbers, and what fills them in.
 #![tactic(auto)]
 
 ghost use Rattle.std.specs.Prelude.{◌≡◌};
@@ -10,8 +11,9 @@ ghost use Rattle.listing_call.specs.Calls.{shown};
 ghost use Rattle.weights_call.specs.Calls.{Promises};
 
 use figures::fill_products;
-use listing::Answer;
-use listing_call::{Listed, list_codes};
+use listing::Ran;
+use listing_call::list_codes;
+use refusal::Refusal;
 use sheet::COST_ENTRIES;
 
 // The listing call; `short`: the export has fewer than six result words.
@@ -26,12 +28,12 @@ pub fn list_weights_with(
     held: usize,
     limit: u32,
     short: bool,
-) -> Answer
+) -> Result<Ran, Refusal>
     ensures { CalledAs result (buffers codes.new products.new values.new queue.new store.new)
         (listing_with edition2 sheet.now k (buffers codes.old products.old values.old queue.old store.old) held limit short) }
 {
     let mut prices = [0u16; COST_ENTRIES];
-    match list_codes(
+    let listed = list_codes(
         sheet,
         true,
         k,
@@ -44,15 +46,16 @@ pub fn list_weights_with(
         limit,
         short,
         &mut prices,
-    ) {
-        Listed::Refused(r) => Answer::Refused(r),
-        Listed::Ran(d, ran) => {
-            let ending = ran.ending;
-            let counts = ran.counts;
-            fill_products(products, codes, counts.listed as usize, &prices, d);
-            Answer::Ran(ending, counts)
-        }
-    }
+    )?;
+    let ran = listed.ran;
+    fill_products(
+        products,
+        codes,
+        ran.counts.listed as usize,
+        &prices,
+        listed.decisions,
+    );
+    Ok(ran)
 }
 
 // The listing call: the leading states of the sheet's plant go to codes, products and values.
@@ -66,7 +69,7 @@ pub fn list_weights(
     store: &mut [u64],
     held: usize,
     limit: u32,
-) -> Answer
+) -> Result<Ran, Refusal>
     ensures { (let before : Buffers = buffers codes.old products.old values.old queue.old store.old in
         let after : Buffers = buffers codes.new products.new values.new queue.new store.new in
         (shown (weights_call sheet.now k before held limit) ≡ (answer_of result, after)) × Promises sheet.now k before held limit result after) }

@@ -1,18 +1,18 @@
 -- The definitions one variable further, and at their end: what the functions' proofs cite. Assumes nothing.
-use mathlib.Core.Path.{◌≡◌, refl}
-use mathlib.Core.Bool.{Bool, ◌&&◌}
+use mathlib.Core.Path.{◌≡◌, refl, sym, ap, ◌∙◌}
+use mathlib.Core.Bool.{Bool, ◌&&◌, and_assoc}
 use mathlib.Core.Option.{some}
 use mathlib.Core.List.{List}
 use Prim.Native.Nat.{ℕ, zero, suc, ◌+◌, ◌-◌, ◌*◌, ◌%◌, ◌^◌, ◌≤◌, ◌<◌}
 use native.Mathlib.Omega.{arith}
-use native.Mathlib.Nat.{sub_self}
 use native.Mathlib.Numerals.{add-one}
-use lib.Dec.{eqb, ltb}
+use lib.Dec.{eqb}
 use lib.ListN.{length, get_or, take, drop, drop_of_length-le}
 use lib.Seq.{drop-cons, drop-drop, get_or-take, get_or-drop, length-take-le}
+use Rattle.std.specs.List.{list_all, range_with_len}
 use Rattle.model.specs.Digits.{digits}
 use Rattle.model.specs.Assignment.{optional, is_some, all_zero, nibble_fits, nibbles_fit, mask_fits}
-use Rattle.model.specs.Order.{join, unit, figure_of}
+use Rattle.model.specs.Order.{join, figure_of}
 use Rattle.theory.specs.Words.{sixteens}
 use Rattle.theory.proofs.Digits.{digits_length}
 use Rattle.theory.proofs.WordsSet.{mask_beyond}
@@ -30,11 +30,6 @@ pub optional_some : (b x : ℕ) → (b ≡ 0 → ⊥) → optional b x ≡ some 
 optional_some zero x h = absurd (h refl)
 optional_some (suc b) x h = refl
 
--- where the bit is not zero the nibble is compared with the size
-pub fits_some : (size bit x : ℕ) → (bit ≡ 0 → ⊥) → ltb x size ≡ nibble_fits size bit x
-fits_some size zero x h = absurd (h refl)
-fits_some size (suc bit) x h = refl
-
 -- ---- well formed
 
 -- no bit is set beyond the variables exactly where the mask shifted past them is zero
@@ -42,14 +37,18 @@ pub mask-shift : (domains : List ℕ) (mask d : ℕ) → d ≤ 16 → length dom
 unfolding mask_fits
 mask-shift domains mask d short e = rw e (mask_beyond mask d (omega arith))
 
+-- the test of variable v
+abbrev pub fits_at : List ℕ → ℕ → ℕ → ℕ → Bool
+fits_at sizes mask values v = nibble_fits (get_or sizes v 0) (get_or (digits 2 64 mask) v 0) (get_or (digits 16 16 values) v 0)
+
 -- the test of the variables from v on
 abbrev pub fit_from : List ℕ → ℕ → ℕ → ℕ → ℕ → Bool
 fit_from sizes d mask values v = nibbles_fit (drop v (take d sizes)) (drop v (digits 2 64 mask)) (drop v (digits 16 16 values))
 
-module _ (sizes : List ℕ) (d mask values v : ℕ) (short : d ≤ 16) (long : d ≤ length sizes) where
+module _ (sizes : List ℕ) (d mask values : ℕ) (short : d ≤ 16) (long : d ≤ length sizes) where
   -- the variable's nibble is right, and so are those after it
-  pub fit-step : v < d → fit_from sizes d mask values v ≡ (nibble_fits (get_or sizes v 0) (get_or (digits 2 64 mask) v 0) (get_or (digits 16 16 values) v 0) && fit_from sizes d mask values (v + 1))
-  fit-step h = rw (
+  pub fit-step : (v : ℕ) → v < d → fit_from sizes d mask values v ≡ (fits_at sizes mask values v && fit_from sizes d mask values (v + 1))
+  fit-step v h = rw (
     add-one,
     drop-cons (take d sizes) v 0 (rw (length-take-le d sizes long) h),
     drop-cons (digits 2 64 mask) v 0 (rw (digits_length 2 64 mask) (omega arith)),
@@ -58,8 +57,13 @@ module _ (sizes : List ℕ) (d mask values v : ℕ) (short : d ≤ 16) (long : d
   )
 
   -- after the last variable the nibbles left are tested
-  pub fit-end : v ≡ d → fit_from sizes d mask values v ≡ all_zero (drop d (digits 16 16 values))
-  fit-end e = rw (e, drop_of_length-le (take d sizes) {i = d} (rw (length-take-le d sizes long) (omega arith)))
+  pub fit-end : (v : ℕ) → v ≡ d → fit_from sizes d mask values v ≡ all_zero (drop d (digits 16 16 values))
+  fit-end v e = rw (e, drop_of_length-le (take d sizes) {i = d} (rw (length-take-le d sizes long) (omega arith)))
+
+  -- the tests of n variables from v on, and of the nibbles left
+  pub fit-all : (n v : ℕ) → v + n ≡ d → fit_from sizes d mask values v ≡ (list_all (fits_at sizes mask values) (range_with_len v n) && all_zero (drop d (digits 16 16 values)))
+  fit-all zero v e = fit-end v (omega arith)
+  fit-all (suc n) v e = fit-step v (omega arith) ∙ ap (λ b. fits_at sizes mask values v && b) (fit-all n (v + 1) (omega arith)) ∙ sym (and_assoc (fits_at sizes mask values v) _ _)
 
 -- ---- figures
 
@@ -75,7 +79,3 @@ figure-step w d t f v h k l =
     let g : 16 * v + 16 ≡ 16 * (v + 1) = omega arith in
     let s : drop (suc v) f ≡ drop (v + 1) f = rw (add-one v) in
     rw (e, drop-cons f v 0 k, s, get_or-take 16 (drop (16 * v) t) (get_or f v 0) 0 l, get_or-drop (16 * v) t (get_or f v 0) 0, drop-drop 16 (16 * v) t, g)
-
--- after the last variable there is nothing
-pub figure-end : (w : Bool) (d : ℕ) (t f : List ℕ) (v : ℕ) → v ≡ d → figure_from w d t f v ≡ unit w
-figure-end w d t f v e = rw (e, sub_self d)

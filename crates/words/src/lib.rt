@@ -22,6 +22,13 @@ pub struct Pair {
     pub values: u64,
 }
 
+// The same with the mask widened, as comparisons read them.
+#[derive(Clone, Copy)]
+pub struct WidePair {
+    pub mask: u64,
+    pub values: u64,
+}
+
 // A variable's bit of the mask.
 fn bit_at(mask: u64, v: usize) -> u64
     requires { v < 16 }
@@ -61,7 +68,7 @@ pub fn value(mask: u64, values: u64, v: usize) -> u8
 pub fn is_full(mask: u64, d: usize) -> bool
     ensures { (a : Assignment) (values : ℕ) → Words a mask values → length a ≡ d → result ≡ is_full a }
 {
-    u64::count_ones(mask) as usize == d
+    mask.count_ones() as usize == d
 }
 
 // Takes a variable's value away, if it has one.
@@ -90,7 +97,7 @@ fn nibble_fits(size: u8, bit: u64, x: u64) -> bool
     if bit == 0 {
         return x == 0;
     }
-    x < size as u64
+    x < u64::from(size)
 }
 
 // What is left of the values after their first d nibbles: zero exactly when each nibble left is.
@@ -109,13 +116,8 @@ pub fn values_fit(mask: u64, values: u64, sizes: &[u8], d: usize) -> bool
     requires { (d ≤ 16) × (d ≤ length sizes.now) }
     ensures { result ≡ values_fit (take d sizes.now) mask values }
 {
-    let mut fit = true;
-    let mut v = 0;
-    while v < d {
-        fit = fit & nibble_fits(sizes[v], bit_at(mask, v), nibble_at(values, v));
-        v += 1;
-    }
-    fit & (after(values, d) == 0)
+    let within = (0..d).all(|v| nibble_fits(sizes[v], bit_at(mask, v), nibble_at(values, v)));
+    within & (after(values, d) == 0)
 }
 
 // Whether two words are well formed over the first d of these sizes: those of an assignment within the domains.
@@ -150,26 +152,52 @@ pub fn narrowed(wide: u64) -> u64
     whole << 48
 }
 
-// Whether a node contains a conflict, from the values and the widened mask of both.
-pub fn manifests(values: u64, wide: u64, conflict_values: u64, conflict_wide: u64) -> bool
-    ensures { (n c : Assignment) → Wide n wide values → Wide c conflict_wide conflict_values → length n ≡ length c → result ≡ manifests n c }
-{
-    ((wide & conflict_wide) ^ conflict_wide) | ((values ^ conflict_values) & conflict_wide) == 0
+impl Pair {
+    // The words with the mask widened.
+    pub fn widened(self) -> WidePair
+        ensures { (result.mask ≡ wide_of self.mask) × (result.values ≡ self.values) }
+    {
+        WidePair {
+            mask: widened(self.mask),
+            values: self.values,
+        }
+    }
 }
 
-// Whether of two assignments one contains the other, from the values and the widened mask of both.
-pub fn related(values: u64, wide: u64, other_values: u64, other_wide: u64) -> bool
-    ensures { (n c : Assignment) → Wide n wide values → Wide c other_wide other_values → length n ≡ length c → result ≡ (manifests n c || manifests c n) }
-{
-    let apart = (values ^ other_values) | (wide ^ other_wide);
-    (apart & other_wide == 0) | (apart & wide == 0)
-}
+impl WidePair {
+    // The words with the mask narrow again.
+    pub fn narrowed(self) -> Pair
+        ensures { (a : Assignment) → Wide a self.mask self.values → Words a result.mask result.values }
+    {
+        Pair {
+            mask: narrowed(self.mask),
+            values: self.values,
+        }
+    }
 
-// Whether a node gives a member of a conflict another value, from the values and the widened mask of both.
-pub fn resolves(values: u64, wide: u64, conflict_values: u64, conflict_wide: u64) -> bool
-    ensures { (n c : Assignment) → Wide n wide values → Wide c conflict_wide conflict_values → length n ≡ length c → result ≡ resolves n c }
-{
-    (values ^ conflict_values) & wide & conflict_wide != 0
+    // Whether a node contains a conflict.
+    pub fn manifests(self, conflict: WidePair) -> bool
+        ensures { (n c : Assignment) → Wide n self.mask self.values → Wide c conflict.mask conflict.values → length n ≡ length c → result ≡ manifests n c }
+    {
+        let missing = (self.mask & conflict.mask) ^ conflict.mask;
+        let unlike = (self.values ^ conflict.values) & conflict.mask;
+        missing | unlike == 0
+    }
+
+    // Whether of two assignments one contains the other.
+    pub fn related(self, other: WidePair) -> bool
+        ensures { (n c : Assignment) → Wide n self.mask self.values → Wide c other.mask other.values → length n ≡ length c → result ≡ (manifests n c || manifests c n) }
+    {
+        let apart = (self.values ^ other.values) | (self.mask ^ other.mask);
+        (apart & other.mask == 0) | (apart & self.mask == 0)
+    }
+
+    // Whether a node gives a member of a conflict another value.
+    pub fn resolves(self, conflict: WidePair) -> bool
+        ensures { (n c : Assignment) → Wide n self.mask self.values → Wide c conflict.mask conflict.values → length n ≡ length c → result ≡ resolves n c }
+    {
+        (self.values ^ conflict.values) & self.mask & conflict.mask != 0
+    }
 }
 
 // A variable's value in a code, as an index.
@@ -190,14 +218,7 @@ pub fn departures(code: u64) -> u32
     ensures { (result ≡ departures (digits 16 16 code)) × (result ≤ 16) }
 {
     let reached = (code & NIBBLE_LOW) + NIBBLE_LOW;
-    u64::count_ones((reached | code) & NIBBLE_TOP)
-}
-
-// A table's cost as a number that sums can be made of.
-fn summand(x: u16) -> u32
-    ensures { (result ≡ x) × (result < 65536) }
-{
-    x as u32
+    ((reached | code) & NIBBLE_TOP).count_ones()
 }
 
 // The cost of the full assignment to d variables with this code, from a table with sixteen costs for each variable.
@@ -205,12 +226,9 @@ pub fn cost(code: u64, costs: &[u16], d: usize) -> u32
     requires { (d ≤ 16) × (16 * d ≤ length costs.now) }
     ensures { result ≡ cost (sixteens d costs.now) (digits 16 16 code) }
 {
-    let mut sum: u32 = 0;
-    let mut v = 0;
-    while v < d {
-        let x = digit_at(code, v);
-        sum += summand(costs[VALUES * v + x]);
-        v += 1;
+    let mut sum = 0;
+    for v in 0..d {
+        sum += u32::from(costs[VALUES * v + digit_at(code, v)]);
     }
     sum
 }

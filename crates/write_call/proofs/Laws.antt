@@ -1,8 +1,7 @@
 -- The writing call by what its tests find: a refusal, or the sheet at the buffer's front. Assumes nothing.
-use mathlib.Core.Path.{◌≡◌, refl, sym, ap, ◌∙◌}
+use mathlib.Core.Path.{◌≡◌, refl, sym, ◌∙◌}
 use mathlib.Core.Bool.{not}
-use mathlib.Core.Logic.{inl, inr}
-use mathlib.Core.Option.{Option, none, some}
+use mathlib.Core.Option.{none, some}
 use mathlib.Core.List.{List, [], ◌∷◌, ◌++◌}
 use Prim.Native.Nat.{ℕ, zero, suc, ◌+◌, ◌*◌, ◌/◌, ◌^◌, ◌≤◌, ◌<◌}
 use native.Mathlib.Omega.{arith}
@@ -19,35 +18,15 @@ use Rattle.theory.specs.Digits.{Below}
 use Rattle.theory.specs.WriteRead.{WritePromises}
 use Rattle.theory.proofs.Lists.{all_map}
 use Rattle.theory.proofs.PlantTables.{none-given, tables-bits}
-use Rattle.theory.proofs.Refusals.{length_number, table-number}
 use Rattle.theory.proofs.WriteRead.{call-writes, write_promises}
 use Rattle.theory.proofs.Written.{sheet_length}
-use Rattle.refusal.specs.Refusal.{ground_number}
 use Rattle.write_sheet.specs.Ruled.{Ruled}
 use Rattle.write_sheet.proofs.Laws.{ready}
 
--- ---- a ground and its number
-
-given_by : {n : ℕ} (o : Option ℕ) → n ≡ ground_number o → (n ≡ 0 → ⊥) → o ≡ some n
-given_by none e h = absurd (h e)
-given_by (some m) e h = ap some (sym e)
-
--- no ground has the number 0
-none-by : (o : Option ℕ) → ((n : ℕ) → o ≡ some n → 0 < n) → 0 ≡ ground_number o → o ≡ none
-none-by none h e = refl
-none-by (some n) h e = absurd (omega (arith, h n refl))
-
-module _ (t : Tables) (buffer : List ℕ) where
-  no_lengths : 0 ≡ ground_number (first_given (length_grounds t)) → first_given (length_grounds t) ≡ none
-  no_lengths = none-by _ (λ n e. elim (length_number t buffer n e) [ inl is ↦ omega arith | inr is ↦ omega arith ])
-
-  no_rules : 0 ≡ ground_number (first_given (table_grounds edition1 t)) → first_given (table_grounds edition1 t) ≡ none
-  no_rules = none-by _ (λ n e. elim (table-number t buffer n e) [ inl is ↦ omega arith | inr is ↦ omega arith ])
-
-  -- no rule refuses the tables
-  pub ruled : 0 ≡ ground_number (first_given (length_grounds t)) → 0 ≡ ground_number (first_given (table_grounds edition1 t)) → Ruled t
-  unfolding length_grounds
-  ruled l r = record { lengths = not-false _ (none-given (not (lengths_agree t)) 16 _ (no_lengths l)).0; author = no_rules r }
+-- no rule refuses the tables
+pub ruled : (t : Tables) → none ≡ first_given (length_grounds t) → none ≡ first_given (table_grounds edition1 t) → Ruled t
+unfolding length_grounds
+ruled t l r = record { lengths = not-false _ (none-given (not (lengths_agree t)) 16 _ (sym l)).0; author = sym r }
 
 -- ---- how long tables are that no rule refuses
 
@@ -66,9 +45,9 @@ pub record Most (t : Tables) : Type 0 where
   pub literals : length t.literals ≤ 23040
 
 module _ (t : Tables) (r : Ruled t) where
-  pub most : Below (2 ^ 16) t.costs → Most t
-  most small =
-      let (fits, room, few) = ready t r _ small refl in
+  pub most : Most t
+  most =
+      let (fits, room, few) = ready t r _ refl in
       let a = fits.lengths in
       let costs = total-most 16 t.decisions t.sizes (all_map (λ n b. b.1) t.sizes fits.sizes) in
       let clauses : total t.counts ≤ length t.counts * 15 = rw take-length at (total-most 15 (length t.counts) t.counts fits.counts) in
@@ -87,13 +66,13 @@ module _ (t : Tables) (r : Ruled t) where
 -- ---- the call
 
 module _ (t : Tables) (buffer : List ℕ) where
-  pub lengths-refused : {n : ℕ} → n ≡ ground_number (first_given (length_grounds t)) → (n ≡ 0 → ⊥) → write_call t buffer ≡ unwritten buffer (by_host n)
+  pub lengths-refused : {n : ℕ} → some n ≡ first_given (length_grounds t) → write_call t buffer ≡ unwritten buffer (by_host n)
   unfolding write_call
-  lengths-refused e h = rw (write_call, given_by (first_given (length_grounds t)) e h)
+  lengths-refused e = rw (write_call, ← e)
 
-  pub rules_refused : 0 ≡ ground_number (first_given (length_grounds t)) → {n : ℕ} → n ≡ ground_number (first_given (table_grounds edition1 t)) → (n ≡ 0 → ⊥) → write_call t buffer ≡ unwritten buffer (by_author n)
+  pub rules_refused : none ≡ first_given (length_grounds t) → {n : ℕ} → some n ≡ first_given (table_grounds edition1 t) → write_call t buffer ≡ unwritten buffer (by_author n)
   unfolding write_call
-  rules_refused l e h = rw (write_call, no_lengths t buffer l, given_by (first_given (table_grounds edition1 t)) e h)
+  rules_refused l e = rw (write_call, ← l, ← e)
 
   module _ (r : Ruled t) {n : ℕ} (e : n ≡ length (sheet_of edition1 (plant_of t))) where
     pub short-refused : length buffer < n → write_call t buffer ≡ unwritten buffer (by_host 18)

@@ -1,9 +1,10 @@
 -- A literal's field, and the literals of a clause put one after another. Assumes nothing.
-use mathlib.Core.Path.{◌≡◌, ap, ◌∙◌}
-use mathlib.Core.List.{List, ◌++◌}
+use mathlib.Core.Path.{◌≡◌, sym, ap, ◌∙◌}
+use mathlib.Core.List.{List, [], ◌++◌, map}
 use Prim.Native.Nat.{ℕ, ◌+◌, ◌*◌, ◌^◌, ◌<◌, ◌≤◌}
 use native.Mathlib.Omega.{arith}
-use lib.ListN.{length, drop, length-append}
+use lib.ListN.{length, get_or, drop, length-append}
+use Rattle.std.proofs.lemmas.List.{length-map}
 use Rattle.model.specs.Digits.{digits}
 use Rattle.model.specs.Lists.{All, in_turn}
 use Rattle.model.specs.Sheet.{Literal}
@@ -12,7 +13,8 @@ use Rattle.theory.specs.Longest.{literal_bits}
 use Rattle.theory.specs.Puts.{Puts}
 use Rattle.theory.proofs.Digits.{digits_length, digits-join}
 use Rattle.theory.proofs.Puts.{PutsBefore, part-start, part_room, part_step, part_end}
-use Rattle.theory.proofs.TableClauses.{literal_at, literals-step, literals_end}
+use Rattle.table_rules.specs.Triple.{literal_of}
+use Rattle.table_rules.proofs.Laws.{triples-step, triples-end}
 use Rattle.write_clauses.specs.Narrow.{Narrow}
 
 -- a literal's field holds the digits of its three numbers
@@ -29,36 +31,44 @@ literal_length l = simp (length-append, digits_length)
 pub clause_length : (c : List Literal) → length (clause_written c) ≡ 4 + length (in_turn literal_written c)
 clause_length c = simp (length-append, digits_length)
 
--- the literals before the byte i are put, and those that are left fit their fields
-pub record LiteralsTo (place : ℕ) (lits before : List ℕ) (i next : ℕ) (after : List ℕ) : Type 0 where
-  pub puts : PutsBefore place (in_turn literal_written (literals lits)) (in_turn literal_written (literals (drop i lits))) before next after
-  pub narrow : All Narrow (literals (drop i lits))
+-- as many triples as literals
+pub triples_length : (ts : List (List ℕ)) (lits : List ℕ) → map literal_of ts ≡ literals lits → length ts ≡ length (literals lits)
+triples_length ts lits e = sym (length-map ts literal_of) ∙ ap length e
 
-module _ {place : ℕ} {lits before : List ℕ} where
-  pub literals-first : All Narrow (literals lits) → LiteralsTo place lits before 0 place before
-  literals-first narrow = record { puts = part-start place (in_turn literal_written (literals lits)) before; narrow = narrow }
+-- the bits of literals
+abbrev pub triples_written : List (List ℕ) → List ℕ
+triples_written ts = in_turn literal_written (map literal_of ts)
 
-  module _ {i next : ℕ} {after : List ℕ} (more : i + 2 < length lits) (s : LiteralsTo place lits before i next after) where
-    both : Narrow (literal_at lits i) × All Narrow (literals (drop (i + 3) lits))
-    both = rw (literals-step lits i more) at s.narrow
+-- the literals before the place i are put, and those that are left fit their fields
+pub record LiteralsTo (place : ℕ) (ts : List (List ℕ)) (before : List ℕ) (i next : ℕ) (after : List ℕ) : Type 0 where
+  pub puts : PutsBefore place (triples_written ts) (triples_written (drop i ts)) before next after
+  pub narrow : All Narrow (map literal_of (drop i ts))
 
-    opened : in_turn literal_written (literals (drop i lits)) ≡ literal_written (literal_at lits i) ++ in_turn literal_written (literals (drop (i + 3) lits))
-    opened = ap (λ (ls : List Literal). in_turn literal_written ls) (literals-step lits i more)
+module _ {place : ℕ} {ts : List (List ℕ)} {before : List ℕ} where
+  pub literals-first : All Narrow (map literal_of ts) → LiteralsTo place ts before 0 place before
+  literals-first narrow = record { puts = part-start place (triples_written ts) before; narrow = narrow }
+
+  module _ {i next : ℕ} {after : List ℕ} (more : i < length ts) (s : LiteralsTo place ts before i next after) where
+    both : Narrow (literal_of (get_or ts i [])) × All Narrow (map literal_of (drop (i + 1) ts))
+    both = rw (triples-step ts i more) at s.narrow
+
+    opened : triples_written (drop i ts) ≡ literal_written (literal_of (get_or ts i [])) ++ triples_written (drop (i + 1) ts)
+    opened = ap (in_turn literal_written) (triples-step ts i more)
 
     -- the next literal fits its fields
-    pub literal-narrow : Narrow (literal_at lits i)
+    pub literal-narrow : Narrow (literal_of (get_or ts i []))
     literal-narrow = both.0
 
     -- it finds room
-    pub literal-room : (room : ℕ) → place + length (in_turn literal_written (literals lits)) ≤ room → next + literal_bits ≤ room
+    pub literal-room : (room : ℕ) → place + length (triples_written ts) ≤ room → next + literal_bits ≤ room
     literal-room room h =
-        let bits = part_room s.puts (literal_written (literal_at lits i)) (in_turn literal_written (literals (drop (i + 3) lits))) room opened h in
-        omega (arith, bits, literal_length (literal_at lits i))
+        let bits = part_room s.puts (literal_written (literal_of (get_or ts i []))) (triples_written (drop (i + 1) ts)) room opened h in
+        omega (arith, bits, literal_length (literal_of (get_or ts i [])))
 
     -- it is put
-    pub literals-next : {next' : ℕ} {after' : List ℕ} → place ≤ length before → Puts next (literal_written (literal_at lits i)) after next' after' → LiteralsTo place lits before (i + 3) next' after'
+    pub literals-next : {next' : ℕ} {after' : List ℕ} → place ≤ length before → Puts next (literal_written (literal_of (get_or ts i []))) after next' after' → LiteralsTo place ts before (i + 1) next' after'
     literals-next within p = record { puts = part_step s.puts within opened p; narrow = both.1 }
 
   -- all literals are put
-  pub literals-put : {i next : ℕ} {after : List ℕ} → length lits ≤ i + 2 → LiteralsTo place lits before i next after → Puts place (in_turn literal_written (literals lits)) before next after
-  literals-put {i} h s = part_end (ap (λ (ls : List Literal). in_turn literal_written ls) (literals_end lits i h)) s.puts
+  pub literals-put : {i next : ℕ} {after : List ℕ} → length ts ≤ i → LiteralsTo place ts before i next after → Puts place (triples_written ts) before next after
+  literals-put {i} h s = part_end (ap (in_turn literal_written) (triples-end ts i h)) s.puts

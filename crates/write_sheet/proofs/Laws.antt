@@ -1,20 +1,21 @@
 -- Laws of a sheet that is written: its head and its filler, what tables that no rule refuses are, and the whole of its bits. Assumes nothing.
 use mathlib.Core.Path.{◌≡◌, refl, sym, ap, subst, ◌∙◌}
 use mathlib.Core.List.{List, ◌++◌, map, append_assoc}
-use Prim.Native.Nat.{ℕ, ◌+◌, ◌-◌, ◌*◌, ◌/◌, ◌%◌, ◌^◌, ◌≤◌, ◌<◌}
+use Prim.Native.Nat.{ℕ, zero, suc, ◌+◌, ◌-◌, ◌*◌, ◌/◌, ◌%◌, ◌^◌, ◌≤◌, ◌<◌}
 use native.Mathlib.Omega.{arith}
 use lib.ListN.{length, replicate, length-append, length-replicate}
 use Rattle.model.specs.Lists.{All, in_turn}
 use Rattle.model.specs.Digits.{digits}
 use Rattle.model.specs.Sheet.{Literal, Plant, sizes, edition1}
 use Rattle.model.specs.Tables.{Tables, literals, plant_of, tables_of, decision_written, state_written, clause_written, plant_written, packed, sheet_of}
+use Rattle.model.specs.TableCalls.{lengths_agree, fields_fit, table_grounds}
 use Rattle.theory.specs.Digits.{Below}
 use Rattle.theory.specs.Plant.{Sized, Present, Accepted}
 use Rattle.theory.specs.Puts.{Puts, bits_of}
 use Rattle.theory.proofs.Bits.{packed-whole, packed-filler}
 use Rattle.theory.proofs.Lists.{all_map, all_join, all_image, all-at}
 use Rattle.theory.proofs.Longest.{longest-edition1, no_longer}
-use Rattle.theory.proofs.PlantTables.{Agreed, agreed, all-turns, literals-turns, tables-back, tables-accepted}
+use Rattle.theory.proofs.PlantTables.{Agreed, agreed, all-turns, literals-turns, tables-back, tables-accepted, tables-bits}
 use Rattle.theory.proofs.Puts.{puts_then}
 use Rattle.theory.proofs.Sheet.{no_weights}
 use Rattle.theory.proofs.Written.{sheet_length, written}
@@ -86,6 +87,10 @@ plant_fitting p ok lengths =
       literals = rw (literals-turns p.clauses) (all-turns Narrow p.clauses (all_map (λ c b. all_map (narrow (sizes p) few sized) c b.1) p.clauses ok.literals));
     }
 
+zeros_below : (n : ℕ) → Below (2 ^ 16) (replicate n 0)
+zeros_below zero = tt
+zeros_below (suc n) = (omega arith, zeros_below n)
+
 module _ (t : Tables) (r : Ruled t) where
   same : tables_of (plant_of t) ≡ t
   same = tables-back t r.lengths
@@ -108,12 +113,30 @@ module _ (t : Tables) (r : Ruled t) where
     head_length t.decisions t.states t.clauses,
   )
 
-  -- what the tables are, and that the parts find room in as many bytes as the sheet has
-  pub ready : (n : ℕ) → Below (2 ^ 16) t.costs → n ≡ length (sheet_of edition1 (plant_of t)) → Fitting t × (29 + length (variables_of (plant_of t)) + length (clauses_of (plant_of t)) ≤ 8 * n) × (8 * n < 2 ^ 64)
+  -- what the tables are, and that their sheet is short, where each cost fits its sixteen bits
+  fitting : Below (2 ^ 16) t.costs → Fitting t × (length (sheet_of edition1 (plant_of t)) ≤ 11356)
   unfolding edition1
-  ready n small e =
+  fitting small =
       let (ok, allowed) = tables-accepted edition1 t small no_weights r.lengths r.author in
       let sheet : List ℕ = sheet_of edition1 (plant_of t) in
       let fits : Fitting t = subst (λ (u : Tables). Fitting u) same (plant_fitting (plant_of t) ok (subst (λ (u : Tables). Agreed u) (sym same) (agreed t r.lengths))) in
-      let short : length sheet ≤ 11356 = rw (← longest-edition1) (no_longer edition1 sheet (plant_of t) (8 * length sheet) (written edition1 (plant_of t) (omega arith) (omega arith) ok allowed)) in
-      (fits, omega (arith, sheet_length edition1 (plant_of t), parts_length), omega arith)
+      (fits, rw (← longest-edition1) (no_longer edition1 sheet (plant_of t) (8 * length sheet) (written edition1 (plant_of t) (omega arith) (omega arith) ok allowed)))
+
+-- no rule of tables looks at what the costs are
+module _ (t : Tables) (r : Ruled t) where
+  -- the same tables with each cost 0
+  abbrev free : Tables
+  free = record { decisions = t.decisions; states = t.states; clauses = t.clauses; sizes = t.sizes; costs = replicate (length t.costs) 0; counts = t.counts; literals = t.literals }
+
+  ruled_free : Ruled free
+  unfolding lengths_agree table_grounds fields_fit
+  ruled_free = record { lengths = rw (lengths_agree, length-replicate {A = ℕ} (length t.costs) 0) r.lengths; author = r.author }
+
+  -- what the tables are, and that the parts find room in as many bytes as the sheet has
+  pub ready : (n : ℕ) → n ≡ length (sheet_of edition1 (plant_of t)) → Fitting t × (29 + length (variables_of (plant_of t)) + length (clauses_of (plant_of t)) ≤ 8 * n) × (8 * n < 2 ^ 64)
+  unfolding edition1
+  ready n e =
+      let (fits, short) = fitting free ruled_free (zeros_below (length t.costs)) in
+      let as_long = length-replicate {A = ℕ} (length t.costs) 0 in
+      let all : Fitting t = record { lengths = agreed t r.lengths; decisions = fits.decisions; states = fits.states; clauses = fits.clauses; sizes = fits.sizes; counts = fits.counts; literals = fits.literals } in
+      (all, omega (arith, sheet_length edition1 (plant_of t), parts_length t r), omega (arith, short, as_long, tables-bits edition1 t r.lengths, tables-bits edition1 free ruled_free.lengths, sheet_length edition1 (plant_of t), sheet_length edition1 (plant_of free)))

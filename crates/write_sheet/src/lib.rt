@@ -5,13 +5,15 @@ ghost use Rattle.std.specs.Prelude.{◌≡◌, ◌++◌, ◌+◌, ◌-◌, ◌*�
 ghost use Rattle.model.specs.Digits.{digits};
 ghost use Rattle.model.specs.Sheet.{edition1};
 ghost use Rattle.model.specs.Tables.{plant_of, sheet_of};
+ghost use Rattle.theory.specs.Digits.{Below};
 ghost use Rattle.theory.specs.Longest.{head_bits, literal_bits};
 ghost use Rattle.theory.specs.Puts.{Puts, bits_of};
-ghost use Rattle.theory.specs.Tables.{tables_given};
 ghost use Rattle.readings.specs.Lengths.{size_entries, cost_entries, count_entries, literal_bytes};
+ghost use Rattle.table_rules.specs.Given.{given_by};
 ghost use Rattle.write_sheet.specs.Ruled.{Ruled};
 
 use readings::{COST_BITS, COUNT_BITS, HEAD_BITS, LITERAL_BITS, SIZE_BITS};
+use table_rules::Tables;
 
 // The edition that is written.
 const EDITION: u32 = 1;
@@ -30,14 +32,14 @@ pub fn sheet_bytes(sizes: usize, costs: usize, counts: usize, lits: usize) -> us
 }
 
 // Puts the edition and the three numbers at the front.
-fn head(sheet: &mut [u8], d: u32, s: u32, c: u32) -> usize
-    requires { (d < 2 ^ 5) × (s < 2 ^ 6) × (c < 2 ^ 10) × (head_bits ≤ 8 * length sheet.old) }
-    ensures { Puts 0 (digits 2 8 1 ++ (digits 2 5 d ++ (digits 2 6 s ++ digits 2 10 c))) (bits_of sheet.old) result (bits_of sheet.new) }
+fn head(sheet: &mut [u8], tables: &Tables) -> usize
+    requires { (tables.now.decisions < 2 ^ 5) × (tables.now.states < 2 ^ 6) × (tables.now.clauses < 2 ^ 10) × (head_bits ≤ 8 * length sheet.old) }
+    ensures { Puts 0 (digits 2 8 1 ++ (digits 2 5 tables.now.decisions ++ (digits 2 6 tables.now.states ++ digits 2 10 tables.now.clauses))) (bits_of sheet.old) result (bits_of sheet.new) }
 {
     let mut at = bits::put(sheet, 0, 8, EDITION);
-    at = bits::put(sheet, at, 5, d);
-    at = bits::put(sheet, at, 6, s);
-    bits::put(sheet, at, 10, c)
+    at = bits::put(sheet, at, 5, tables.decisions);
+    at = bits::put(sheet, at, 6, tables.states);
+    bits::put(sheet, at, 10, tables.clauses)
 }
 
 // Puts zero bits up to the byte's end.
@@ -48,22 +50,15 @@ fn filler(sheet: &mut [u8], place: usize) -> usize
     bits::put(sheet, place, (8 - place % 8) % 8, 0)
 }
 
-// Writes the sheet of tables into a part of just its length.
-pub fn write(
-    sheet: &mut [u8],
-    d: u32,
-    s: u32,
-    c: u32,
-    sizes: &[u8],
-    costs: &[u16],
-    counts: &[u8],
-    lits: &[u8],
-)
-    requires { Ruled (tables_given d s c sizes.now costs.now counts.now lits.now) × (length sheet.old ≡ length (sheet_of edition1 (plant_of (tables_given d s c sizes.now costs.now counts.now lits.now)))) }
-    ensures { sheet.new ≡ sheet_of edition1 (plant_of (tables_given d s c sizes.now costs.now counts.now lits.now)) }
+// Writes the sheet of tables into a part of just its length. Callers learn too that each cost is a number of sixteen bits: of
+// a slice in a struct nothing else says so.
+pub fn write(sheet: &mut [u8], tables: &Tables)
+    requires { Ruled (given_by tables.now) × (length sheet.old ≡ length (sheet_of edition1 (plant_of (given_by tables.now)))) }
+    ensures { (sheet.new ≡ sheet_of edition1 (plant_of (given_by tables.now))) × Below (2 ^ 16) tables.now.costs.now }
 {
-    let mut at = head(sheet, d, s, c);
-    at = write_variables::variables(sheet, at, d as usize, sizes, costs);
-    at = write_clauses::clauses(sheet, at, counts, lits);
+    let decisions = tables.decisions as usize;
+    let mut at = head(sheet, tables);
+    at = write_variables::variables(sheet, at, decisions, tables.sizes, tables.costs);
+    at = write_clauses::clauses(sheet, at, tables.counts, tables.lits);
     filler(sheet, at);
 }

@@ -6,6 +6,7 @@ ghost use Rattle.std.specs.Prelude.{◌+◌, ◌*◌, ◌≤◌, ◌<◌, ◌^�
 ghost use Rattle.model.specs.Lists.{All, in_turn};
 ghost use Rattle.model.specs.Sheet.{edition1};
 ghost use Rattle.model.specs.Tables.{total, cost_rows, decision_written, state_written};
+ghost use Rattle.theory.specs.Digits.{Below};
 ghost use Rattle.theory.specs.Plant.{Sized};
 ghost use Rattle.theory.specs.Puts.{Puts, bits_of};
 
@@ -17,10 +18,8 @@ fn row(sheet: &mut [u8], place: usize, costs: &[u16]) -> usize
     ensures { Puts place (decision_written edition1 costs.now) (bits_of sheet.old) result (bits_of sheet.new) }
 {
     let mut at = bits::put(sheet, place, SIZE_BITS, costs.len() as u32 - 1);
-    let mut i = 0;
-    while i < costs.len() {
-        at = bits::put(sheet, at, COST_BITS, costs[i] as u32);
-        i += 1;
+    for &cost in costs {
+        at = bits::put(sheet, at, COST_BITS, u32::from(cost));
     }
     at
 }
@@ -31,14 +30,11 @@ fn decisions(sheet: &mut [u8], place: usize, sizes: &[u8], costs: &[u16]) -> usi
     ensures { Puts place (in_turn (decision_written edition1) (cost_rows sizes.now costs.now)) (bits_of sheet.old) result (bits_of sheet.new) }
 {
     let mut at = place;
-    let mut from = 0;
-    let mut i = 0;
-    while i < sizes.len() {
-        let n = sizes[i] as usize;
-        let end = from + n;
-        at = row(sheet, at, &costs[from..end]);
-        from += n;
-        i += 1;
+    let mut left = costs;
+    for &size in sizes {
+        let (next, others) = left.split_at(usize::from(size));
+        at = row(sheet, at, next);
+        left = others;
     }
     at
 }
@@ -49,20 +45,19 @@ fn states(sheet: &mut [u8], place: usize, sizes: &[u8]) -> usize
     ensures { Puts place (in_turn state_written sizes.now) (bits_of sheet.old) result (bits_of sheet.new) }
 {
     let mut at = place;
-    let mut i = 0;
-    while i < sizes.len() {
-        at = bits::put(sheet, at, SIZE_BITS, sizes[i] as u32 - 1);
-        i += 1;
+    for &size in sizes {
+        at = bits::put(sheet, at, SIZE_BITS, u32::from(size) - 1);
     }
     at
 }
 
-// Puts the variables: the first d are decision variables.
+// Puts the variables: the first d are decision variables. Callers learn too that each cost is a number of sixteen bits.
 pub fn variables(sheet: &mut [u8], place: usize, d: usize, sizes: &[u8], costs: &[u16]) -> usize
     requires { All Sized sizes.now × (d ≤ length sizes.now) × (total (take d sizes.now) ≤ length costs.now)
         × (place + length (in_turn (decision_written edition1) (cost_rows (take d sizes.now) costs.now) ++ in_turn state_written (drop d sizes.now)) ≤ 8 * length sheet.old) × (8 * length sheet.old < 2 ^ 64) }
-    ensures { Puts place (in_turn (decision_written edition1) (cost_rows (take d sizes.now) costs.now) ++ in_turn state_written (drop d sizes.now)) (bits_of sheet.old) result (bits_of sheet.new) }
+    ensures { Puts place (in_turn (decision_written edition1) (cost_rows (take d sizes.now) costs.now) ++ in_turn state_written (drop d sizes.now)) (bits_of sheet.old) result (bits_of sheet.new) × Below (2 ^ 16) costs.now }
 {
-    let after = decisions(sheet, place, &sizes[..d], costs);
-    states(sheet, after, &sizes[d..])
+    let (decided, stated) = sizes.split_at(d);
+    let after = decisions(sheet, place, decided, costs);
+    states(sheet, after, stated)
 }

@@ -10,5 +10,5 @@ overflow_sub-result c = rw (one_shifted c.args.w (omega arith)) (pow_pos c.args.
 
 pub returns : goal.returns
 returns c =
-    let bytes = below_all 256 c.args.sheet.now (λ v. omega (arith, c.shared_slice_known-1.given v)) in
+    let bytes = below_all 256 c.args.sheet.now (λ v. omega (arith, c.type_inv.sheet v)) in
     in_three c.args.sheet.now bytes c.args.place c.args.w c.word-all.result c.after-behind.result c.requires c.word-all.ensures c.after-behind.ensures

@@ -5,4 +5,4 @@ use Rattle.children.proofs.from_entry.Goals as goal
 pub returns : goal.returns
 returns c p n ok v e =
     let a = c.args in
-    rw (c.mask_in.ensures, c.code_in.ensures, c.figure_in.ensures) (entry-is a.weighed p ok a.a a.b n v e)
+    rw (c.mask.ensures, c.code.ensures, c.figure.ensures) (entry-is a.weighed p ok a.entry.a a.entry.b n v e)

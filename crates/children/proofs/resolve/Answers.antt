@@ -1,64 +1,37 @@
 -- `children::resolve` meets its contract. The loop's invariant: the children of the members passed have been put, and what is left is the children of the node with those members at the conflict's values. Assumes nothing.
-use mathlib.Core.Path.{refl, ap, ◌∙◌}
-use native.Mathlib.Omega.{arith}
-use lib.ListN.{length}
-use Rattle.children.proofs.Walk.{size_small, size_is}
-use Rattle.children.proofs.Members.{midway_start, midway_end, here, midway_skip, here-free, here-small, midway_next, midway_full}
+use Rattle.std.proofs.lemmas.Result.{err_from_is_err_and}
+use Rattle.children.proofs.Members.{midway_start, here, midway_skip, here-free, here-small, midway_next, midway_full}
 use Rattle.children.proofs.resolve.Goals as goal
-use Rattle.children.proofs.resolve.Goals.{then-y-lt-VALUES+in-Entries, else-y-lt-VALUES}
+use Rattle.children.proofs.resolve.Goals.{in-Some+in_ok-entries, in_default}
 
 pub loop-v-init : goal.loop-v-init
-loop-v-init c = (omega arith, refl, λ s t k w valid. midway_start s k valid)
+loop-v-init c s t k w valid = midway_start s k valid
 
-pub put_values-requires : goal.put_values-requires
-put_values-requires c =
-    let l = c.loop-v in
-    (omega arith, omega (arith, c.wide.ensures, size_small c.args.d c.args.sizes.now l.v c.requires.3 (omega arith)), omega arith, c.requires.4)
-
-pub shape_of-queue-in_default : goal.shape_of-queue-in_default
-shape_of-queue-in_default c = c.put_values.auto.queue ∙ c.loop-v.invariant.1
-
-pub returns-in_default : goal.returns-in_default
-returns-in_default c s tables k w valid =
+pub returns-in_err-entries : goal.returns-in_err-entries
+returns-in_err-entries c s tables k w valid =
     let l = c.loop-v in
     let t = c.loop-v-test.true in
-    let y = c.wanted-y in
-    let z = c.if-y-lt-VALUES.true in
-    let i = c.wide.ensures in
-    let h = l.invariant.2 s tables k w valid in
-    midway_full s k valid tables _ _ _ _ h l.invariant.1 t _ _ _ w y.ensures z _
-    (rw (c.in_default.is, i) at
-    (c.put_values.ensures (here s k valid tables _ _ _ _ h l.invariant.1 t) (here-free s k valid tables _ _ _ _ h l.invariant.1 t _ _ _ w y.ensures z) (i ∙ size_is tables _ t)))
-
-pub given-next-requires : goal.given-next-requires
-given-next-requires c = (omega arith, omega arith, omega arith)
+    let told = c.wanted.ensures.told in
+    let is = c.in-Some.is in
+    let y = c.in-Some.y in
+    let h = l.invariant s tables k w valid in
+    let p = err_from_is_err_and c.from_residual.result c.from_residual.ensures.1 in
+    rw (p.1, p.2) (midway_full s k valid tables _ _ _ _ h l.auto.queue t _ _ w told y is _
+    (rw c.in_err-entries.was at (c.put_values.ensures (here s k valid tables _ _ _ _ h l.auto.queue t) tables (here-free s k valid tables _ _ _ _ h l.auto.queue t _ _ w told y is).free)))
 
 pub loop-v-preserved : goal.loop-v-preserved
-loop-v-preserved c =
+loop-v-preserved c s tables k q valid =
     let l = c.loop-v in
     let t = c.loop-v-test.true in
-    let y = c.wanted-y in
-    elim c.if-y-lt-VALUES.branch [
-      | then-y-lt-VALUES+in-Entries w ↦ (
-        omega arith,
-        ap length w.queue-is ∙ w.put_values.auto.queue ∙ l.invariant.1,
-        λ s tables k q valid.
-            let h = l.invariant.2 s tables k q valid in
-            let f = here-free s k valid tables _ _ _ _ h l.invariant.1 t _ _ _ q y.ensures w.if-y-lt-VALUES.true in
-            let i = w.wide.ensures in
-            let child = w.given-next.ensures s.plant h.held h.is f (here-small s k valid tables _ _ _ _ h l.invariant.1 t _ _ _ q y.ensures w.if-y-lt-VALUES.true) in
-            rw (w.queue-is, w.passed-is, w.entries-is) (midway_next s k valid tables _ _ _ _ h l.invariant.1 t _ _ _ q y.ensures w.if-y-lt-VALUES.true _ _ _ child
-            (rw (w.in-Entries.is, i) at (w.put_values.ensures (here s k valid tables _ _ _ _ h l.invariant.1 t) f (i ∙ size_is tables _ t)))),
-      )
-      | else-y-lt-VALUES w ↦ (
-        omega arith,
-        ap length w.queue-is ∙ l.invariant.1,
-        λ s tables k q valid. rw (w.queue-is, w.passed-is, w.entries-is) (midway_skip s k valid tables _ _ _ _ (l.invariant.2 s tables k q valid) l.invariant.1 t _ _ _ q y.ensures w.if-y-lt-VALUES.false),
-      )
+    let told = c.wanted.ensures.told in
+    let h = l.invariant s tables k q valid in
+    elim c.match-wanted.branch [
+      | in-Some+in_ok-entries w ↦
+          let is = w.in-Some.is in
+          let y = w.in-Some.y in
+          let f = here-free s k valid tables _ _ _ _ h l.auto.queue t _ _ q told y is in
+          let child = w.given-passed.ensures s.plant h.held h.is f (here-small s k valid tables _ _ _ _ h l.auto.queue t _ _ q told y is) in
+          rw (w.queue-is, w.passed-is, w.entries-is) (midway_next s k valid tables _ _ _ _ h l.auto.queue t _ _ q told y is _ _ _ child
+          (rw w.in_ok-entries.was at (w.put_values.ensures (here s k valid tables _ _ _ _ h l.auto.queue t) tables f.free)))
+      | in_default w ↦ rw (w.queue-is, w.passed-is, w.entries-is) (midway_skip s k valid tables _ _ _ _ h l.auto.queue t _ _ q told w.in_default.is)
     ]
-
-pub shape_of-queue : goal.shape_of-queue
-shape_of-queue c = c.loop-v.invariant.1
-
-pub returns : goal.returns
-returns c s t k w valid = let l = c.loop-v in midway_end s k valid t _ _ _ _ (l.invariant.2 s t k w valid) (omega arith)

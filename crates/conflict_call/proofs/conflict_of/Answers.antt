@@ -14,10 +14,10 @@ pub returns-in-Spent : goal.returns-in-Spent
 returns-in-Spent c p costs t a w v =
     rw c.with_values-in-Spent.ensures (answers-spent p _ a (c.test_shown-test.ensures.answer p costs t a w v) c.in-Spent.is)
 
-pub returns-in-Conflict : goal.returns-in-Conflict
-returns-in-Conflict c p costs t a w v =
-    rw c.with_values-in-Conflict.ensures (answers-conflict p _ a (c.test_shown-test.ensures.answer p costs t a w v) c.in-Inconsistent.is c.if-not-minimal.false _ (c.reduce.ensures.answer p costs t a w v) c.in-Conflict.is)
+pub returns-in-Ok : goal.returns-in-Ok
+returns-in-Ok c p costs t a w v =
+    rw c.with_values-in-Ok.ensures (answers-conflict p _ a (c.test_shown-test.ensures.answer p costs t a w v) c.in-Inconsistent.is c.if-not-minimal.false _ (c.reduce.ensures.answer p costs t a w v) c.in-Ok.is)
 
-pub returns-in-Spent-reduce : goal.returns-in-Spent-reduce
-returns-in-Spent-reduce c p costs t a w v =
-    rw c.with_values-in-Spent-reduce.ensures (answers-stopped p _ a (c.test_shown-test.ensures.answer p costs t a w v) c.in-Inconsistent.is c.if-not-minimal.false _ (c.reduce.ensures.answer p costs t a w v) c.in-Spent-reduce.is)
+pub returns-in-Err : goal.returns-in-Err
+returns-in-Err c p costs t a w v =
+    rw c.with_values-in-Err.ensures (answers-stopped p _ a (c.test_shown-test.ensures.answer p costs t a w v) c.in-Inconsistent.is c.if-not-minimal.false _ (c.reduce.ensures.answer p costs t a w v) c.in-Err.is)

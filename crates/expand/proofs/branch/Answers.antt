@@ -4,5 +4,5 @@ use Rattle.expand.proofs.branch.Goals as goal
 
 pub returns : goal.returns
 returns c q limit codes values t tables found free =
-    let r = c.branch-sizes in
+    let r = c.branch-choices in
     branched_is t _ r.auto.queue _ _ found free (r.ensures (removed-step t) tables) c.put.ensures

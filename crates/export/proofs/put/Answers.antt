@@ -1,5 +1,4 @@
 -- `put` meets its contract: two stores fill the first two places. Assumes nothing.
-use borrow.Author.Rules.{rules}
 use Rattle.export.proofs.Testing.{two-written}
 use Rattle.export.proofs.put.Goals as goal
 

@@ -1,8 +1,5 @@
 -- `write` meets its contract: six stores fill the first six places. Assumes nothing.
-use native.Mathlib.Omega.{arith}
-use lib.ListN.{set, length-set}
 use Rattle.export.proofs.Listing.{six_written}
-use borrow.Author.Rules.{rules}
 use Rattle.export.proofs.write.Goals as goal
 
 pub returns : goal.returns

@@ -1,6 +1,5 @@
 -- `written` meets its contract: two stores fill the first two places. Assumes nothing.
 use mathlib.Core.Path.{refl}
-use borrow.Author.Rules.{rules}
 use Rattle.export.proofs.Testing.{two-written}
 use Rattle.export.proofs.written.Goals as goal
 

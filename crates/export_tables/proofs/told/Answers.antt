@@ -1,6 +1,5 @@
 -- `export_tables::told` meets its contract: one store fills the first place. Assumes nothing.
 use mathlib.Core.Path.{refl}
-use borrow.Author.Rules.{rules}
 use Rattle.export_tables.proofs.Saving.{one_written}
 use Rattle.export_tables.proofs.told.Goals as goal
 

@@ -1,32 +1,17 @@
 -- `learn` meets its contract: one law for each way out. Assumes nothing.
-use native.Mathlib.Omega.{arith}
 use Rattle.judge.proofs.Judging.{learn-unkept, learn-spent, learn-conflict}
 use Rattle.judge.proofs.learn.Goals as goal
 
-pub returns-then-store-g : goal.returns-then-store-g
-returns-then-store-g c = record {
-  answer = λ q prices codes values tb t. rw c.counted.ensures (learn-unkept t _ c.if-store-g.true);
-  long = c.requires.0.planned;
-}
+pub returns-then-store-g-clause-answer : goal.returns-then-store-g-clause-answer
+returns-then-store-g-clause-answer c q prices codes values tb t = rw c.counted.ensures (learn-unkept t _ c.if-store-g.true)
 
-pub overflow_add-result-in-Conflict : goal.overflow_add-result-in-Conflict
-overflow_add-result-in-Conflict c = omega (arith, c.requires)
+pub returns-in-Err-clause-answer : goal.returns-in-Err-clause-answer
+returns-in-Err-clause-answer c q prices codes values tb t =
+    let reduced = c.reduce.ensures.answer q.plant prices tb t.parent (c.values-held.ensures c.args.weighed q.plant t.parent t.is) t.is.valid in
+    rw c.counted-in-Err.ensures (learn-spent t _ c.if-store-g.false _ reduced c.args.queue.now c.in-Err.is)
 
-pub counted-requires-in-Conflict : goal.counted-requires-in-Conflict
-counted-requires-in-Conflict c = c.requires.1.tested-less
-
-pub returns-in-Spent : goal.returns-in-Spent
-returns-in-Spent c =
-    record {
-      answer = λ q prices codes values tb t. rw c.counted-in-Spent.ensures (learn-spent t _ c.if-store-g.false _ ((c.reduce.ensures.answer q.plant prices tb t.parent (c.values.ensures c.args.weighed q.plant t.parent t.is) t.is.valid)) c.args.queue.now c.in-Spent.is);
-      long = c.reduce.ensures.long;
-    }
-
-pub returns-in-Conflict : goal.returns-in-Conflict
-returns-in-Conflict c =
+pub returns-in-Ok-clause-answer : goal.returns-in-Ok-clause-answer
+returns-in-Ok-clause-answer c q prices codes values tb t =
+    let reduced = c.reduce.ensures.answer q.plant prices tb t.parent (c.values-held.ensures c.args.weighed q.plant t.parent t.is) t.is.valid in
     let s = c.sieve-left in
-    record {
-      answer = λ q prices codes values tb t.
-          rw c.counted-in-Conflict.ensures (learn-conflict t _ c.if-store-g.false _ ((c.reduce.ensures.answer q.plant prices tb t.parent (c.values.ensures c.args.weighed q.plant t.parent t.is) t.is.valid)) c.in-Conflict.is _ _ _ _ s.auto.queue c.learn-stored.ensures.kept s.ensures);
-      long = c.reduce.ensures.long;
-    }
+    rw c.counted-in-Ok.ensures (learn-conflict t _ c.if-store-g.false _ reduced c.in-Ok.is _ _ _ _ s.auto.queue c.learn-stored.ensures.kept s.ensures)

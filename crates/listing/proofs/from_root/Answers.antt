@@ -13,7 +13,7 @@ use Rattle.listing.proofs.from_root.Goals as goal
 pub root-node-requires : goal.root-node-requires
 root-node-requires c =
     let b = c.requires.0.tables in
-    (tabled-few b.tabled, root_few c.args.weighed b.tabled b.accepted, b.tabled.cost-room)
+    (tabled-few b.tabled, root_few c.args.query.now.weighed b.tabled b.accepted, b.tabled.cost-room)
 
 pub push-requires : goal.push-requires
 push-requires c = omega (arith, c.requires.0.room.queue-room)
@@ -21,17 +21,17 @@ push-requires c = omega (arith, c.requires.0.room.queue-room)
 pub run-requires : goal.run-requires
 run-requires c =
     let t = c.requires.0 in
-    let w = c.args.weighed in
+    let w = c.args.query.now.weighed in
     let o = order_of (edition_of w) t.plant in
-    let node = c.root-node.ensures t.plant _ _ _ t.tables.tabled t.tables.accepted t.tables.preferred-is in
-    let entry = c.entry_of-e.ensures (decision_sizes t.plant) o (unassigned (decision_sizes t.plant)) (node-entry node).0 (node-entry node).1 node.valid node.mask_is node.code_is node.figure-is in
+    let node = c.root-node.ensures t.plant t.tables.tabled t.tables.accepted t.tables.preferred-is in
+    let entry = c.entry_of-entry.ensures (decision_sizes t.plant) o (unassigned (decision_sizes t.plant)) (node-entry node).0 (node-entry node).1 node.valid node.mask_is node.code_is node.figure-is in
     start-steps t c.requires.2 c.first-progress.ensures _ c.push.auto.queue (c.push.ensures o [] (unassigned (decision_sizes t.plant)) (holds-nothing o _) entry)
 
 pub returns : goal.returns
 returns c t survivors s =
-    let w = c.args.weighed in
+    let w = c.args.query.now.weighed in
     let o = order_of (edition_of w) t.plant in
-    let node = c.root-node.ensures t.plant _ _ _ t.tables.tabled t.tables.accepted t.tables.preferred-is in
-    let entry = c.entry_of-e.ensures (decision_sizes t.plant) o (unassigned (decision_sizes t.plant)) (node-entry node).0 (node-entry node).1 node.valid node.mask_is node.code_is node.figure-is in
+    let node = c.root-node.ensures t.plant t.tables.tabled t.tables.accepted t.tables.preferred-is in
+    let entry = c.entry_of-entry.ensures (decision_sizes t.plant) o (unassigned (decision_sizes t.plant)) (node-entry node).0 (node-entry node).1 node.valid node.mask_is node.code_is node.figure-is in
     let steps = start-steps t s c.first-progress.ensures _ c.push.auto.queue (c.push.ensures o [] (unassigned (decision_sizes t.plant)) (holds-nothing o _) entry) in
     rw (← c.push.auto.queue) (c.run.ensures steps (enough_steps (decision_sizes t.plant)) (start-enough (decision_sizes t.plant) survivors _))

@@ -22,15 +22,15 @@ pub listing-f-requires : goal.listing-f-requires
 listing-f-requires c =
     let t = c.requires.0.1 in
     let ok = c.requires.0.2 in
-    lists_of c.args.weighed t ok c.prepare.ensures plan_long (c.preferred-preferred.ensures _ _ _ t) c.requires.1
+    lists_of t ok c.prepare.ensures plan_long (c.preferred-preferred.ensures _ _ _ t) c.requires.1
 
 pub finish-requires : goal.finish-requires
 finish-requires c =
     let t = c.requires.0.1 in
     let ok = c.requires.0.2 in
-    finished_room (c.listing-f.ensures (lists_of c.args.weighed t ok c.prepare.ensures plan_long (c.preferred-preferred.ensures _ _ _ t) c.requires.1))
+    finished_room (c.listing-f.ensures (lists_of t ok c.prepare.ensures plan_long (c.preferred-preferred.ensures _ _ _ t) c.requires.1))
 
 pub returns : goal.returns
 returns c p t ok =
-    let h = c.listing-f.ensures (lists_of c.args.weighed t ok c.prepare.ensures plan_long (c.preferred-preferred.ensures p _ _ t) c.requires.1) in
+    let h = c.listing-f.ensures (lists_of t ok c.prepare.ensures plan_long (c.preferred-preferred.ensures p _ _ t) c.requires.1) in
     finished_ran c.args.weighed p c.args.k _ _ _ _ h c.listing-f.auto.queue c.listing-f.auto.store c.finish.ensures

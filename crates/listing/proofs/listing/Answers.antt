@@ -9,14 +9,13 @@ check_all-requires c = let t = c.requires in (tabled-ready t.tables.tabled t.tab
 pub from_root-requires : goal.from_root-requires
 from_root-requires c =
     let t = c.requires in
-    let o = rw c.in-Checked.is at (c.check_all.ensures.answer t.plant _ t.tables.tabled) in
-    (lists-again t c.check_all.ensures.long, o.0, checked-survivors t _ o)
+    let o = c.in-Ok.ensures.answer t.plant _ t.tables.tabled in
+    (lists-again t c.check_all.ensures.long, o.0, checked-survivors t o)
 
-pub returns-in-BrokenOff : goal.returns-in-BrokenOff
-returns-in-BrokenOff c t =
-    broken_ends t _ c.first.ensures (rw c.in-BrokenOff.is at (c.check_all.ensures.answer t.plant _ t.tables.tabled))
+pub returns-in-Err : goal.returns-in-Err
+returns-in-Err c t = broken_ends t c.first.ensures (c.in-Err.ensures.answer t.plant _ t.tables.tabled)
 
-pub returns-in-Checked : goal.returns-in-Checked
-returns-in-Checked c t =
-    let o = rw c.in-Checked.is at (c.check_all.ensures.answer t.plant _ t.tables.tabled) in
-    checked-ends t _ _ _ _ o _ c.check_all.auto.store (c.from_root.ensures (lists-again t c.check_all.ensures.long) o.0 (checked-survivors t _ o))
+pub returns-in-Ok : goal.returns-in-Ok
+returns-in-Ok c t =
+    let o = c.in-Ok.ensures.answer t.plant _ t.tables.tabled in
+    checked-ends t _ _ _ o _ c.check_all.auto.store (c.from_root.ensures (lists-again t c.check_all.ensures.long) o.0 (checked-survivors t o))

@@ -3,4 +3,4 @@ use Rattle.listing.proofs.Starting.{root_is}
 use Rattle.listing.proofs.root.Goals as goal
 
 pub returns : goal.returns
-returns c p sizes counts lits t ok e = root_is c.args.weighed t ok _ _ c.figure.ensures e
+returns c p t ok e = root_is c.args.query.now.weighed t ok _ _ c.figure.ensures e

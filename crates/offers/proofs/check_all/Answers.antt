@@ -1,47 +1,28 @@
 -- `check_all` meets its contract. The loop's invariant: the check of all offers is the check of those behind place i, with the survivors so far. Assumes nothing.
 use mathlib.Core.Path.{refl, ◌∙◌}
 use native.Mathlib.Omega.{arith}
+use Rattle.std.proofs.lemmas.Result.{err_from_is_err_and}
 use Rattle.theory.proofs.Tables.{tabled-count, tabled-few}
-use Rattle.conflict.proofs.Given.{ready-again}
 use Rattle.offers.proofs.Offering.{checked-start, checked-next, checked_broken, checked-end}
 use Rattle.offers.proofs.check_all.Goals as goal
 
 pub loop-i-init : goal.loop-i-init
-loop-i-init c = (refl, c.requires.0.planned, omega arith, omega arith, λ p costs t. checked-start (omega (arith, tabled-count t, tabled-few t)))
+loop-i-init c = (refl, c.requires.0.planned, omega arith, λ p costs t. checked-start (omega (arith, tabled-count t, tabled-few t)))
 
-pub check-requires : goal.check-requires
-check-requires c =
-    let l = c.loop-i in
-    (ready-again c.requires.0 l.invariant.1, omega (arith, c.requires.1, l.invariant.0, l.invariant.3), l.invariant.2)
-
-pub shape_of-store-in-BrokenOff : goal.shape_of-store-in-BrokenOff
-shape_of-store-in-BrokenOff c = (c.check.auto.store ∙ c.loop-i.invariant.0)
-
-pub returns-in-BrokenOff : goal.returns-in-BrokenOff
-returns-in-BrokenOff c =
-    record {
-      answer = λ p costs t. checked_broken ((c.loop-i.invariant.4 p costs t)) c.in-BrokenOff.is ((c.check.ensures.one p costs t c.args.held ((c.loop-i.invariant.4 p costs t)).found c.loop-i-test.true
-          (omega (arith, c.requires.1, c.loop-i.invariant.0)) ((c.loop-i.invariant.4 p costs t)).long ((c.loop-i.invariant.4 p costs t)).keeps));
-      long = c.check.ensures.long;
-    }
+pub returns-in_err-offered-clause-answer : goal.returns-in_err-offered-clause-answer
+returns-in_err-offered-clause-answer c p costs t =
+    let so_far = c.loop-i.invariant.3 p costs t in
+    let e = err_from_is_err_and c.from_residual.result c.from_residual.ensures.1 in
+    rw (e.1, e.2) (checked_broken so_far (c.in_err-offered.ensures.one p costs t c.args.held so_far.found (omega arith) (omega arith) so_far.long so_far.keeps))
 
 pub loop-i-preserved : goal.loop-i-preserved
-loop-i-preserved c =
-    let e = c.in-Checked.is in
-    let few = rw e at c.check.ensures.few in (
-      (c.check.auto.store ∙ c.loop-i.invariant.0),
-      c.check.ensures.long,
-      omega (arith, few, c.loop-i.invariant.2),
-      omega (arith, c.loop-i-test.true),
-      λ p costs t. checked-next ((c.loop-i.invariant.4 p costs t)) e ((c.check.ensures.one p costs t c.args.held ((c.loop-i.invariant.4 p costs t)).found c.loop-i-test.true
-          (omega (arith, c.requires.1, c.loop-i.invariant.0)) ((c.loop-i.invariant.4 p costs t)).long ((c.loop-i.invariant.4 p costs t)).keeps)),
-    )
+loop-i-preserved c = (
+  c.check.auto.store ∙ c.loop-i.invariant.0,
+  c.check.ensures.long,
+  omega (arith, c.in_ok-offered.ensures.few),
+  λ p costs t. let so_far = c.loop-i.invariant.3 p costs t in
+      checked-next so_far (c.in_ok-offered.ensures.one p costs t c.args.held so_far.found (omega arith) (omega arith) so_far.long so_far.keeps),
+)
 
-pub shape_of-store : goal.shape_of-store
-shape_of-store c = c.loop-i.invariant.0
-
-pub returns : goal.returns
-returns c = record {
-  answer = λ p costs t. checked-end (c.loop-i.invariant.4 p costs t) (omega arith);
-  long = c.loop-i.invariant.1;
-}
+pub returns-clause-answer : goal.returns-clause-answer
+returns-clause-answer c p costs t = checked-end (c.loop-i.invariant.3 p costs t) (omega arith)

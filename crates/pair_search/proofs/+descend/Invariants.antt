@@ -2,9 +2,9 @@
 -- The measure: each descent leaves one variable fewer to set. Assumes nothing.
 use mathlib.Core.Path.{◌≡◌}
 use mathlib.Core.Bool.{Bool, true}
-use Prim.Native.Nat.{ℕ, ◌-◌, ◌<◌, ◌≤◌}
+use Prim.Native.Nat.{ℕ, ◌<◌, ◌≤◌}
 use Rattle.clauses.specs.Numbers.{pair_clauses}
-use Rattle.clauses.specs.Sets.{in_pair}
+use Rattle.clauses.specs.Pairs.{of_pair}
 use Rattle.plan.specs.Plans.{notes_begin, in_plan, SameBefore, left_to_set, Alike}
 use Rattle.plan.proofs.Rows.{Inside}
 use Rattle.pair_search.specs.Found.{Learns}
@@ -19,9 +19,6 @@ invariant-loop-x l =
     Inside l.initial.plan l.v
     × SameBefore notes_begin l.initial.plan l.plan
     × (l.rest ≤ l.left)
-    × ((inOther : ℕ → Bool) → Alike (in_pair l.needs1 l.needs2) (in_pair l.first l.second) inOther → Tries l.sat l.initial.plan inOther l.v l.left l.rest l.x)
+    × ((inOther : ℕ → Bool) → Alike (of_pair l.needs) (of_pair l.held) inOther → Tries l.sat l.initial.plan inOther l.v l.left l.rest l.x)
     × Learns l.sat l.initial.plan l.plan
-    × ((c : ℕ) → c < pair_clauses → in_plan l.initial.plan l.v c ≡ true → in_pair l.needs1 l.needs2 c ≡ true)
-
-abbrev pub decreases-loop-x : goal.decreases-loop-x
-decreases-loop-x l = l.size - l.x
+    × ((c : ℕ) → c < pair_clauses → in_plan l.initial.plan l.v c ≡ true → of_pair l.needs c ≡ true)

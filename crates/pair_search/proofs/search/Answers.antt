@@ -5,12 +5,12 @@ use Rattle.pair_search.proofs.search.Goals as goal
 
 pub with_trials_made-requires : goal.with_trials_made-requires
 with_trials_made-requires c =
-    (rw c.unpacked-a.ensures c.descend.ensures.few, omega (arith, c.trials_left-left.ensures, c.ranges.used.fits, c.ranges.limit.fits))
+    (c.descend-answer.ensures.few, omega (arith, c.trials_left-left.ensures, c.ranges.used.fits, c.ranges.limit.fits))
 
 pub returns : goal.returns
 returns c =
-    let f = c.descend.ensures in
+    let f = c.descend-answer.ensures in
     record {
-      finds = λ sizes vals p. rw (c.with_trials_made.ensures, c.unpacked-a.ensures, told-afterwards _ _ vals _ _) (f.finds sizes vals _ _ p c.trials_left-left.ensures);
+      finds = λ sizes vals p. rw (c.with_trials_made.ensures, told-afterwards _ _ vals _ _) (f.finds sizes vals _ _ p c.trials_left-left.ensures);
       long = f.long;
     }

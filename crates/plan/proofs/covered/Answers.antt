@@ -6,18 +6,18 @@ use borrow.Author.Tests.{eqb-true, eq-eqb}
 use Rattle.plan.proofs.Pairs.{covered_all, covered_first, covered_second}
 use Rattle.plan.proofs.covered.Goals as goal
 
-pub returns-then-due-first : goal.returns-then-due-first
-returns-then-due-first c =
+pub returns-then-due-set : goal.returns-then-due-set
+returns-then-due-set c =
     let s = c.args in
     record {
       all = λ e. absurd (let z : ◌≡◌ {A = ℕ} 0 1 = cc in omega arith);
-      only = λ f. absurd (c.if-due-first.true (covered_first s.plan.now s.v s.first s.second f (c.shared_slice_known-1.given _).fits));
+      only = λ f. absurd (c.if-due-set.true (covered_first s.plan.now s.v s.set.first s.set.second f (c.shared_slice_known-1.given _).fits));
     }
 
 pub returns : goal.returns
 returns c =
     let s = c.args in
     record {
-      all = λ e. covered_all s.plan.now s.v s.first s.second c.if-due-first.false (eqb-true _ _ e);
-      only = λ f. eq-eqb _ _ (covered_second s.plan.now s.v s.first s.second f (c.shared_slice_known-2-1.given _).fits);
+      all = λ e. covered_all s.plan.now s.v s.set.first s.set.second c.if-due-set.false (eqb-true _ _ e);
+      only = λ f. eq-eqb _ _ (covered_second s.plan.now s.v s.set.first s.set.second f (c.shared_slice_known-2-1.given _).fits);
     }

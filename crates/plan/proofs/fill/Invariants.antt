@@ -1,5 +1,5 @@
 -- `fill` meets its contract. The loop: the bytes before v are taken over, and those from v on are as they came. Assumes nothing.
-use Prim.Native.Nat.{◌-◌, ◌≤◌}
+use Prim.Native.Nat.{◌≤◌}
 use lib.ListN.{length}
 use Rattle.clauses.specs.Numbers.{variables}
 use Rattle.plan.proofs.Filled.{Filling}
@@ -7,6 +7,3 @@ use Rattle.plan.proofs.fill.Given as goal
 
 abbrev pub invariant-loop-v : goal.invariant-loop-v
 invariant-loop-v l = Filling l.initial.vals l.plan l.vals l.v × (length l.initial.vals ≤ variables)
-
-abbrev pub decreases-loop-v : goal.decreases-loop-v
-decreases-loop-v l = length l.vals - l.v

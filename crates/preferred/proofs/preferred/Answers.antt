@@ -7,23 +7,21 @@ use Rattle.preferred.proofs.Laws.{size-at, all-handed, one_more}
 use Rattle.preferred.proofs.preferred.Goals as goal
 
 pub loop-v-init : goal.loop-v-init
-loop-v-init c = (omega arith, no_values)
+loop-v-init c = no_values
 
 pub best-x-requires : goal.best-x-requires
 best-x-requires c =
-    let z = size-at c.args.sizes.now c.args.costs.now c.args.d c.requires c.loop-v.v c.loop-v-test.true in
-    (omega (arith, c.wide.ensures), omega (arith, c.wide.ensures, c.best-arg-1.given.1))
+    let z = size-at c.args.sizes.now c.args.costs.now c.args.d c.requires c.loop-v.v (omega arith) in
+    omega (arith, c.from.ensures)
 
 pub overflow_add-word : goal.overflow_add-word
 overflow_add-word c =
-    let more = c.loop-v-test in
-    omega (arith, (one_more c.args.sizes.now c.args.costs.now c.args.d c.requires c.loop-v.v c.best-x.result more.true c.wide.ensures c.best-x.ensures c.loop-v.invariant.1).one_word)
+    omega (arith, (one_more c.args.sizes.now c.args.costs.now c.args.d c.requires c.loop-v.v c.best-x.result (omega arith) c.from.ensures c.best-x.ensures c.loop-v.invariant).one_word)
 
 pub loop-v-preserved : goal.loop-v-preserved
 loop-v-preserved c =
-    let more = c.loop-v-test in
-    (omega arith, one_more c.args.sizes.now c.args.costs.now c.args.d c.requires c.loop-v.v c.best-x.result more.true c.wide.ensures c.best-x.ensures c.loop-v.invariant.1)
+    one_more c.args.sizes.now c.args.costs.now c.args.d c.requires c.loop-v.v c.best-x.result (omega arith) c.from.ensures c.best-x.ensures c.loop-v.invariant
 
 pub returns : goal.returns
 returns c p counts lits t =
-    rw (ap (λ (q : Plant). q.costs) t.plant) (all-handed c.args.sizes.now c.args.costs.now c.args.d c.requires c.loop-v.v (omega arith) c.loop-v.invariant.1)
+    rw (ap (λ (q : Plant). q.costs) t.plant) (all-handed c.args.sizes.now c.args.costs.now c.args.d c.requires c.loop-v.v (omega arith) c.loop-v.invariant)

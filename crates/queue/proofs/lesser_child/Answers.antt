@@ -11,7 +11,7 @@ pub returns-then-c-n : goal.returns-then-c-n
 returns-then-c-n c =
     let x = c.entry_at-x in
     let y = c.entry_at-y in
-    lesser_by c.args.n c.args.i (pairs c.args.queue.now) (x.result.a, x.result.b) (y.result.a, y.result.b) c.comes_before.result (omega arith) x.ensures y.ensures c.comes_before.ensures
+    rw c.from.ensures (lesser_by c.args.n c.args.i (pairs c.args.queue.now) (x.result.a, x.result.b) (y.result.a, y.result.b) c.comes_before.result (omega arith) x.ensures y.ensures c.comes_before.ensures)
 
 pub returns-else-c-n : goal.returns-else-c-n
 returns-else-c-n c = only_child (omega arith) (omega arith) (omega arith) (omega arith)

@@ -4,4 +4,8 @@ use Rattle.queue.proofs.node_of.Goals as goal
 
 pub returns : goal.returns
 returns c ss o n s w v e =
-    rw (c.widened.ensures, c.code_in.ensures, c.mask_in-mask.ensures, w) (rw (← e) at (node-words ss o n s v))
+    record {
+      mask = c.mask.result;
+      words = rw (c.widened-wide.ensures, c.code.ensures, c.mask.ensures, w) (rw (← e) at (node-words ss o n s v));
+      wide_is = c.widened-wide.ensures;
+    }

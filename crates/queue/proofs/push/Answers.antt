@@ -1,4 +1,4 @@
--- `queue::push` meets its contract. The invariant: with (a, b) at the open place i, the queue is in order but for i, and is a permutation of the queue at the start with (a, b) in front. The measure is i. Assumes nothing.
+-- `queue::push` meets its contract. The invariant: with the entry at the open place i, the queue is in order but for i, and is a permutation of the queue at the start with the entry in front. The measure is i. Assumes nothing.
 use mathlib.Core.Path.{refl, sym, ◌∙◌}
 use Prim.Native.Nat.{◌+◌, ◌-◌, ◌/◌}
 use native.Mathlib.Omega.{arith}
@@ -16,7 +16,7 @@ use Rattle.queue.proofs.push.Goals.{else-loop-i-test, then-loop-i-test+then-not-
 pub loop-i-init : goal.loop-i-init
 unfolding Ready
 loop-i-init c =
-    (refl, omega arith, rise_start c.args.n (c.args.a, c.args.b) (pairs c.args.queue.now) (omega (arith, room c.args.queue.now (c.args.n + 1) (omega arith))))
+    (refl, omega arith, rise_start c.args.n (c.args.entry.a, c.args.entry.b) (pairs c.args.queue.now) (omega (arith, room c.args.queue.now (c.args.n + 1) (omega arith))))
 
 pub comes_before-requires : goal.comes_before-requires
 comes_before-requires c = tt
@@ -24,9 +24,9 @@ comes_before-requires c = tt
 pub loop-i-preserved : goal.loop-i-preserved
 loop-i-preserved c =
     let l = c.loop-i in
-    let e = c.entry_at-e in
+    let e = c.entry_at-parent in
     let t = c.comes_before in
-    let v : Item = (c.args.a, c.args.b) in
+    let v : Item = (c.args.entry.a, c.args.entry.b) in
     let due = due-by refl e.ensures (due-before v (e.result.a, e.result.b) (sym t.ensures ∙ c.if-not-comes_before.false)) in (
       c.put.auto.queue ∙ l.invariant.0,
       omega arith,
@@ -43,6 +43,6 @@ returns c o nodes node h is =
     holds-push o _ _ _ nodes node _ h is
     (rw c.put-2.ensures (elim c.loop-i-test.branch [
       | else-loop-i-test w ↦ rise_top (l.invariant.2 h.ready) w.loop-i-test.false
-      | then-loop-i-test+then-not-comes_before w ↦ rise_stop (l.invariant.2 h.ready) ((l.i - 1) / 2) (omega arith) (due-by w.entry_at-e.ensures refl (sym w.comes_before.ensures ∙ w.if-not-comes_before.true))
+      | then-loop-i-test+then-not-comes_before w ↦ rise_stop (l.invariant.2 h.ready) ((l.i - 1) / 2) (omega arith) (due-by w.entry_at-parent.ensures refl (sym w.comes_before.ensures ∙ w.if-not-comes_before.true))
     ]))
     (λ w. rw c.put-2.ensures ((l.invariant.2 h.ready).same w))

@@ -1,4 +1,4 @@
--- `queue::push` meets its contract. The invariant: with (a, b) at the open place i, the queue is in order but for i, and is a permutation of the queue at the start with (a, b) in front. The measure is i. Assumes nothing.
+-- `queue::push` meets its contract. The invariant: with the entry at the open place i, the queue is in order but for i, and is a permutation of the queue at the start with the entry in front. The measure is i. Assumes nothing.
 use mathlib.Core.Path.{◌≡◌}
 use Prim.Native.Nat.{◌≤◌}
 use lib.ListN.{length}
@@ -8,7 +8,7 @@ use Rattle.queue.proofs.SiftLaws.{Rising}
 use Rattle.queue.proofs.push.Given as goal
 
 abbrev pub invariant-loop-i : goal.invariant-loop-i
-invariant-loop-i l = (length l.queue ≡ length l.initial.queue) × (l.i ≤ l.n) × (Ready l.n l.initial.queue → Rising l.n (l.a, l.b) (pairs l.initial.queue) (pairs l.queue) l.i)
+invariant-loop-i l = (length l.queue ≡ length l.initial.queue) × (l.i ≤ l.n) × (Ready l.n l.initial.queue → Rising l.n (l.entry.a, l.entry.b) (pairs l.initial.queue) (pairs l.queue) l.i)
 
 abbrev pub decreases-loop-i : goal.decreases-loop-i
 decreases-loop-i l = l.i

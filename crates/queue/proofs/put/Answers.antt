@@ -3,4 +3,4 @@ use Rattle.queue.proofs.PairLaws.{write-pair}
 use Rattle.queue.proofs.put.Goals as goal
 
 pub returns : goal.returns
-returns c = write-pair c.args.queue.now c.args.i c.args.a c.args.b c.requires
+returns c = write-pair c.args.queue.now c.args.i c.args.e.a c.args.e.b c.requires

@@ -8,6 +8,3 @@ use Rattle.queue.proofs.rebuild.Given as goal
 
 abbrev pub invariant-loop-i : goal.invariant-loop-i
 invariant-loop-i l = (length l.queue ≡ length l.initial.queue) × (2 * l.i ≤ l.n) × HeapFrom l.i l.n (pairs l.queue) × Same (take l.n (pairs l.initial.queue)) (take l.n (pairs l.queue))
-
-abbrev pub decreases-loop-i : goal.decreases-loop-i
-decreases-loop-i l = l.i

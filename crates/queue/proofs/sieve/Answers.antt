@@ -13,8 +13,8 @@ use Rattle.queue.proofs.HoldsLaws.{spared, stays_spared, holds-sieve}
 use Rattle.queue.proofs.sieve.Goals as goal
 use Rattle.queue.proofs.sieve.Goals.{then-stays, else-stays}
 
-pub widened-wide-requires : goal.widened-wide-requires
-widened-wide-requires c = tt
+pub widened-conflict-requires : goal.widened-conflict-requires
+widened-conflict-requires c = tt
 
 pub loop-i-init : goal.loop-i-init
 loop-i-init c = (refl, omega arith, omega arith, λ test answers. sieve-start test (pairs c.args.queue.now))
@@ -61,12 +61,12 @@ returns c = (
   omega arith,
   λ ss o nodes conflict suits is valid words long h.
       let l = c.loop-i in
-      let wide = c.widened-wide in
+      let wide = c.widened-conflict in
       let r = c.rebuild in
       let n = c.args.n in
       let old = c.args.queue.now in
       let all : l.i ≡ n = omega arith in
-      let answers = stays_spared ss o conflict suits long n old nodes h valid c.args.weighed is wide.result c.args.values (record { mask = c.args.mask; words = words; wide_is = wide.ensures }) c.requires in
+      let answers = stays_spared ss o conflict suits long n old nodes h valid c.args.weighed is wide.result.mask wide.result.values (rw wide.ensures.1 (record { mask = c.args.mask; words = words; wide_is = wide.ensures.0 })) c.requires in
       let front : take l.count (pairs l.queue) ≡ keep (spared o.weighed conflict) (take n (pairs old)) = rw all at (l.invariant.3 (spared o.weighed conflict) answers).kept in
       holds-sieve ss o conflict suits long n old nodes h valid l.count r.new.queue (omega arith) r.ensures.heap (λ w. rw front at (r.ensures.same w)),
 )

@@ -6,4 +6,4 @@ use Rattle.queue.proofs.stays.Goals as goal
 
 pub returns : goal.returns
 returns c ss o n d s is v e w l =
-    ap not (c.manifests.ensures n d (record { mask = c.node_of-n.result.mask; words = c.node_of-n.ensures ss o n s is v e; wide_is = c.widened-wide.ensures }) w (valid_length ss n v ∙ sym l))
+    ap not (c.manifests.ensures n d (c.node_of.ensures ss o n s is v e) w (valid_length ss n v ∙ sym l))

@@ -1,7 +1,6 @@
 -- `start` meets its contract. The loop, from the last variable down: the sets are those of the variables from v on. Assumes nothing.
 use mathlib.Core.Path.{◌≡◌}
 use mathlib.Core.List.{List}
-use Prim.Native.Nat.{◌≤◌}
 use lib.ListN.{length}
 use Rattle.model.specs.Sheet.{Literal}
 use Rattle.clauses.specs.Numbers.{most_clauses, uses_words}
@@ -11,10 +10,6 @@ use Rattle.row_search.proofs.start.Given as goal
 
 abbrev pub invariant-loop-v : goal.invariant-loop-v
 invariant-loop-v l =
-    (l.v ≤ length l.vals)
-    × (length l.last ≡ length l.initial.last)
+    (length l.last ≡ length l.initial.last)
     × Lent uses_words l.vals l.sat l.uses l.initial.last
     × ((cs : List (List Literal)) → Clauses cs l.vals l.sat l.uses → SetsFrom most_clauses cs l.vals (in_set l.last) (in_set l.held 0) (in_set l.free 0) l.v)
-
-abbrev pub decreases-loop-v : goal.decreases-loop-v
-decreases-loop-v l = l.v

@@ -7,8 +7,8 @@ use Rattle.sheet.proofs.ending.Goals as goal
 pub returns-then-value-ne0 : goal.returns-then-value-ne0
 returns-then-value-ne0 c = λ p. sym (end-filled _ p _ (λ z. omega arith))
 
-pub returns-then-end-sheet : goal.returns-then-end-sheet
-returns-then-end-sheet c = λ p. sym (end_early _ p _ (omega arith) (λ e. omega arith))
+pub returns-then-end-reader : goal.returns-then-end-reader
+returns-then-end-reader c = λ p. sym (end_early _ p _ (omega arith) (λ e. omega arith))
 
 pub returns : goal.returns
 returns c = λ p. sym (end-there _ p _ (omega arith) (omega arith))

@@ -1,5 +1,5 @@
 -- `sheet_clauses::clause` meets its contract: the literals in the table so far and the rest of the readings are the whole clause. Assumes nothing.
-use Prim.Native.Nat.{◌+◌, ◌*◌, ◌-◌, ◌≤◌}
+use Prim.Native.Nat.{◌+◌, ◌*◌, ◌≤◌}
 use mathlib.Core.Path.{◌≡◌}
 use lib.ListN.{length, take}
 use Rattle.model.specs.Sheet.{read_literal, read_clause}
@@ -9,8 +9,10 @@ use Rattle.readings.proofs.Laws.{Reading}
 use Rattle.sheet_clauses.proofs.clause.Given as goal
 
 abbrev pub invariant-loop-i : goal.invariant-loop-i
-invariant-loop-i l = (l.i ≤ l.count) × (l.count ≤ 15) × (l.at ≡ l.place + 4 + literal_bits * l.i) × (length l.lits ≡ length l.initial.lits)
-    × Reading (read_literal l.sheet l.domains) (read_clause l.sheet l.domains l.place) l.count l.i (literals (take (3 * l.i) l.lits)) l.at
-
-abbrev pub decreases-loop-i : goal.decreases-loop-i
-decreases-loop-i l = l.count - l.i
+invariant-loop-i l = record {
+  small : l.count ≤ 15;
+  sheet : l.reader.sheet ≡ l.fn.reader.sheet;
+  place : l.reader.place ≤ l.fn.reader.place + 4 + literal_bits * l.i;
+  room : length l.lits ≡ length l.initial.lits;
+  reading : Reading (read_literal l.fn.reader.sheet.now l.domains) (read_clause l.fn.reader.sheet.now l.domains l.fn.reader.place) l.count l.i (literals (take (3 * l.i) l.lits)) l.reader.place;
+}

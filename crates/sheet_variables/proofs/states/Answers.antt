@@ -3,40 +3,35 @@ use Prim.Native.Nat.{◌<◌}
 use mathlib.Core.Path.{◌≡◌, refl, sym, ap, ◌∙◌}
 use native.Mathlib.Omega.{arith}
 use lib.ListN.{length, take, length-set}
+use lib.Seq.{take_all}
 use Rattle.model.specs.Sheet.{got}
-use Rattle.theory.proofs.Sheet.{field-got}
 use Rattle.readings.proofs.Tables.{take_write}
-use Rattle.readings.proofs.Laws.{begin, turn, stop, done, was_value, was_past}
+use Rattle.readings.proofs.Laws.{begin, turn, stop, done, refused_as}
 use Rattle.sheet_variables.proofs.Laws.{state-got, state-past}
 use Rattle.sheet_variables.proofs.states.Goals as goal
 
-pub loop-i-init : goal.loop-i-init
-loop-i-init c = (omega arith, omega arith, refl, begin _ _)
+pub loop-size-init : goal.loop-size-init
+loop-size-init c = record { sheet = refl; place = omega arith; long = refl; reading = begin _ _ }
 
-pub returns-in_default : goal.returns-in_default
-returns-in_default c =
-    let loop = c.loop-i in
-    (sym (stop loop.invariant.3 c.loop-i-test.true (state-past _ _ _ (was_past _ c.in_default.is c.field_at.ensures))), tt)
+pub returns-in_err-less-clause-read : goal.returns-in_err-less-clause-read
+returns-in_err-less-clause-read c =
+    let loop = c.loop-size.invariant in
+    refused_as _ _ _ c.from_residual.result c.from_residual.ensures.1 (stop loop.reading c.loop-size-test.true (state-past _ _ _ (sym (rw loop.sheet at c.in_err-less.ensures.read))))
 
-pub overflow_cast-sizes : goal.overflow_cast-sizes
-overflow_cast-sizes c = omega (arith, (field-got _ 4 _ _ _ (was_value c.in-Value.is c.field_at.ensures)).0)
+pub loop-size-preserved : goal.loop-size-preserved
+loop-size-preserved c =
+    let l = c.loop-size in
+    let loop = l.invariant in
+    let one = state-got _ _ _ _ (sym (rw loop.sheet at c.in_ok-less.ensures.read)) in
+    let room : l.size-index < length l.sizes = omega arith in record {
+      sheet = c.field.ensures.sheet ∙ loop.sheet;
+      place = omega (arith, c.field.ensures.place);
+      long = length-set l.sizes l.size-index _ ∙ loop.long;
+      reading = turn loop.reading c.loop-size-test.true one (take_write l.sizes l.size-index _ room);
+    }
 
-pub overflow_add-sizes : goal.overflow_add-sizes
-overflow_add-sizes c = omega (arith, (field-got _ 4 _ _ _ (was_value c.in-Value.is c.field_at.ensures)).0)
-
-pub loop-i-preserved : goal.loop-i-preserved
-loop-i-preserved c =
-    let loop = c.loop-i in
-    let one = state-got _ _ _ _ (was_value c.in-Value.is c.field_at.ensures) in
-    let room : loop.i < length loop.sizes = omega arith in (
-      omega arith,
-      omega arith,
-      length-set loop.sizes loop.i _ ∙ loop.invariant.2,
-      turn loop.invariant.3 c.loop-i-test.true one (take_write loop.sizes loop.i _ room),
-    )
-
-pub returns : goal.returns
-returns c =
-    let loop = c.loop-i in
-    let all : c.args.s ≡ loop.i = omega arith in
-    (ap (λ n. got (take n loop.sizes) loop.at) all ∙ sym (done loop.invariant.3 c.loop-i-test.false), omega arith)
+pub returns-clause-read : goal.returns-clause-read
+returns-clause-read c =
+    let l = c.loop-size in
+    let all : take l.size-index l.sizes ≡ l.sizes = take_all l.size-index l.sizes (omega arith) in
+    ap (λ s. got s l.reader.place) (sym all) ∙ sym (done l.invariant.reading (omega arith))

@@ -1,19 +1,6 @@
--- `store::clear_from` meets its contract. The loop's invariant: what zeroing from here on leaves is what zeroing from behind the entries on leaves. Assumes nothing.
-use mathlib.Core.Path.{refl, sym, ◌∙◌}
-use lib.ListN.{length-set}
-use Rattle.store.proofs.Clearing.{zero-step, zero-end, zeroed-behind}
+-- `store::clear_from` meets its contract: the masks are narrowed, and all words behind the entries are zero. Assumes nothing.
+use Rattle.store.proofs.Clearing.{zeroed-behind}
 use Rattle.store.proofs.clear_from.Goals as goal
 
-pub loop-word-init : goal.loop-word-init
-loop-word-init c = (refl, refl)
-
-pub loop-word-preserved : goal.loop-word-preserved
-loop-word-preserved c =
-    let h = c.loop-word in
-    (length-set h.store h.word 0 ∙ h.invariant.0, zero-step h.store h.word c.loop-word-test.true ∙ h.invariant.1)
-
 pub returns : goal.returns
-returns c d conflicts k =
-    let h = c.loop-word in
-    let narrow = c.narrow_masks in
-    sym (zero-end h.store h.word c.loop-word-test.false) ∙ h.invariant.1 ∙ zeroed-behind k _ narrow.auto.store (narrow.ensures d conflicts k)
+returns c d conflicts k = zeroed-behind k _ _ c.narrow_masks.auto.store (c.narrow_masks.ensures d conflicts k) (c.fill.ensures.after (λ y e. e))

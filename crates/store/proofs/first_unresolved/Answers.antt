@@ -1,37 +1,26 @@
--- `store::first_unresolved` meets its contract. The loop's invariant: the first unresolved of all conflicts is the first of those left. Assumes nothing.
-use mathlib.Core.Path.{refl, sym, ◌∙◌}
+-- `store::first_unresolved` meets its contract: the test answers for the conflict at an entry's place. Assumes nothing.
+use mathlib.Core.Path.{refl}
+use mathlib.Core.Bool.{not}
 use mathlib.Core.List.{[]}
 use native.Mathlib.Omega.{arith}
 use lib.ListN.{get_or}
+use Rattle.std.proofs.Common.{rules}
 use Rattle.model.specs.Conflict.{resolves}
 use Rattle.store.proofs.Entries.{keeps-wide, keeps-answer}
-use Rattle.store.proofs.Scan.{unresolved-here, unresolved-later, unresolved-end}
+use Rattle.store.proofs.Scan.{found-unresolved, all-resolved}
 use Rattle.store.proofs.first_unresolved.Goals as goal
 
-pub loop-first-init : goal.loop-first-init
-loop-first-init c = (omega arith, λ d conflicts n k w e. refl)
-
-pub returns-then-not-resolves : goal.returns-then-not-resolves
-returns-then-not-resolves c d conflicts n k w e =
-    let h = c.loop-first in
-    let entry = c.entry_at-e.ensures in
-    let here = keeps-answer k h.first (omega arith) entry.0 entry.1 resolves w e c.resolves.ensures in (
-      get_or conflicts h.first [],
-      h.invariant.1 d conflicts n k w e ∙ unresolved-here conflicts n h.first (omega (arith, k.count)) (sym here ∙ c.if-not-resolves.true),
-      c.narrowed.ensures (get_or conflicts h.first []) _ (keeps-wide k h.first (omega arith) entry.0 entry.1),
-    )
-
-pub loop-first-preserved : goal.loop-first-preserved
-loop-first-preserved c =
-    let h = c.loop-first in
-    let entry = c.entry_at-e.ensures in (
-      omega arith,
-      λ d conflicts n k w e.
-          let here = keeps-answer k h.first (omega arith) entry.0 entry.1 resolves w e c.resolves.ensures in
-          h.invariant.1 d conflicts n k w e ∙ unresolved-later conflicts n h.first (omega (arith, k.count)) (sym here ∙ c.if-not-resolves.false),
-    )
+pub returns-in_err-first : goal.returns-in_err-first
+returns-in_err-first c d conflicts n k w l =
+    rw c.from_residual.ensures (all-resolved n conflicts c.args.m k.count (λ i r h given. keeps-answer k i h refl refl (λ a b. not (resolves a b)) w l (search rules))
+    (rw (c.in_err-first.was) at (c.first_from.ensures (λ i h. absurd (omega arith)))))
 
 pub returns : goal.returns
-returns c d conflicts n k w e =
-    let h = c.loop-first in
-    h.invariant.1 d conflicts n k w e ∙ unresolved-end conflicts n h.first (omega (arith, k.count))
+returns c d conflicts n k w l =
+    let found = rw (c.in_ok-first.was) at (c.first_from.ensures (λ i h. absurd (omega arith))) in
+    let at = c.in_ok-first.first in
+    let entry = c.entry_at-entry.ensures in (
+      get_or conflicts at [],
+      found-unresolved n conflicts c.args.m k.count (λ i r h given. keeps-answer k i h refl refl (λ a b. not (resolves a b)) w l (search rules)) at found,
+      c.narrowed.ensures (get_or conflicts at []) (keeps-wide k at found.there.0 entry.0 entry.1),
+    )

@@ -1,27 +1,15 @@
--- `table_rules::counted` meets its contract: the whole is the test of what is left. Assumes nothing.
-use mathlib.Core.Path.{refl, sym, ◌∙◌}
-use native.Mathlib.Omega.{arith}
-use borrow.Author.Tests.{le-leb, lt-leb}
-use Rattle.table_rules.proofs.Laws.{bytes-step, bytes-end, all-next, all-fails, all_end}
+-- `table_rules::counted` meets its contract: `all` answers what the test says of each. Assumes nothing.
+use mathlib.Core.Path.{◌∙◌}
+use Prim.Native.Nat.{ℕ}
+use lib.Dec.{leb}
+use borrow.Author.Rules.{rules}
+use borrow.Author.Tests.{tests}
+use Rattle.std.proofs.lemmas.Iterator.{YieldsList-from_slice}
+use Rattle.std.proofs.lemmas.Iterator.Search.{all_from_yields_List}
+use Rattle.table_rules.proofs.Laws.{tested}
 use Rattle.table_rules.proofs.counted.Goals as goal
 
-pub loop-i-init : goal.loop-i-init
-loop-i-init c = (omega arith, refl)
-
-pub overflow_cast-counts : goal.overflow_cast-counts
-overflow_cast-counts c = omega (arith, c.shared_slice_known-1.given c.loop-i.i)
-
-pub returns-then-counts-i-gt-LITERALS : goal.returns-then-counts-i-gt-LITERALS
-returns-then-counts-i-gt-LITERALS c =
-    let loop = c.loop-i in
-    let counts = c.args.counts.now in
-    sym (loop.invariant.1 ∙ all-fails _ (bytes-step counts loop.i (omega arith)) (lt-leb _ _ c.if-counts-i-gt-LITERALS.true))
-
-pub loop-i-preserved : goal.loop-i-preserved
-loop-i-preserved c =
-    let loop = c.loop-i in
-    let counts = c.args.counts.now in
-    (omega arith, loop.invariant.1 ∙ all-next _ (bytes-step counts loop.i (omega arith)) (le-leb _ _ c.if-counts-i-gt-LITERALS.false))
-
 pub returns : goal.returns
-returns c = let loop = c.loop-i in sym (loop.invariant.1 ∙ all_end _ (bytes-end c.args.counts.now loop.i (omega arith)))
+returns c =
+    let counts = c.args.counts.now in
+    all_from_yields_List (λ (n : ℕ). leb n 15) _ _ c.all.result c.all.ensures.ran (YieldsList-from_slice counts cc) (λ x b q k. search (rules, tests)) ∙ tested _ counts

@@ -1,34 +1,32 @@
 -- `table_rules::literal_ground` meets its contract: the first ground of all literals is that of those that are left. Assumes nothing.
-use mathlib.Core.Path.{refl, sym, ap, ◌∙◌}
+use mathlib.Core.Path.{sym, ◌∙◌}
 use native.Mathlib.Omega.{arith}
-use Rattle.theory.proofs.TableClauses.{literals-step, literals_end}
-use Rattle.refusal.specs.Refusal.{ground_number}
-use Rattle.table_rules.proofs.Laws.{absent, outside, inside, no_literal}
+use borrow.Author.Tests.{ltb-true, ltb-false}
+use Rattle.table_rules.proofs.Laws.{triples-step, triples-end, absent, outside, inside, no_literal}
 use Rattle.table_rules.proofs.literal_ground.Goals as goal
 
-pub loop-i-init : goal.loop-i-init
-loop-i-init c = (omega arith, refl)
+pub returns-in_default : goal.returns-in_default
+returns-in_default c =
+    let loop = c.loop-variable in
+    let items = c.triples-variable-items in
+    rw (← items.ensures) (sym (loop.invariant ∙ absent c.args.domains.now (triples-step items.result.now loop.variable-index c.loop-variable-test.true) (omega (arith, ltb-false _ _ (sym c.in_default.ensures.lookup.0)))))
 
-pub overflow_cast-v : goal.overflow_cast-v
-overflow_cast-v c = omega (arith, c.shared_slice_known-1.given c.loop-i.i)
+pub returns-then-value-size : goal.returns-then-value-size
+returns-then-value-size c =
+    let loop = c.loop-variable in
+    let items = c.triples-variable-items in
+    let there = c.in-Some.ensures.lookup in
+    rw (← items.ensures) (sym (loop.invariant ∙ outside c.args.domains.now (triples-step items.result.now loop.variable-index c.loop-variable-test.true) (omega (arith, ltb-true _ _ (sym there.0))) (omega (arith, rw c.from.ensures at (there.3.1 0)))))
 
-pub returns-then-v-domains : goal.returns-then-v-domains
-returns-then-v-domains c =
-    let loop = c.loop-i in
-    let s = c.args in
-    ap ground_number (sym (loop.invariant.1 ∙ absent s.domains.now (literals-step s.lits.now loop.i (omega arith)) c.if-v-domains.true))
-
-pub returns-then-lits-i : goal.returns-then-lits-i
-returns-then-lits-i c =
-    let loop = c.loop-i in
-    let s = c.args in
-    ap ground_number (sym (loop.invariant.1 ∙ outside s.domains.now (literals-step s.lits.now loop.i (omega arith)) c.if-v-domains.false c.if-lits-i.true))
-
-pub loop-i-preserved : goal.loop-i-preserved
-loop-i-preserved c =
-    let loop = c.loop-i in
-    let s = c.args in
-    (omega arith, loop.invariant.1 ∙ inside s.domains.now (literals-step s.lits.now loop.i (omega arith)) c.if-v-domains.false c.if-lits-i.false)
+pub loop-variable-preserved : goal.loop-variable-preserved
+loop-variable-preserved c =
+    let loop = c.loop-variable in
+    let items = c.triples-variable-items in
+    let there = c.in-Some.ensures.lookup in
+    loop.invariant ∙ inside c.args.domains.now (triples-step items.result.now loop.variable-index c.loop-variable-test.true) (omega (arith, ltb-true _ _ (sym there.0))) (omega (arith, rw c.from.ensures at (there.3.1 0)))
 
 pub returns : goal.returns
-returns c = let loop = c.loop-i in let s = c.args in ap ground_number (sym (loop.invariant.1 ∙ no_literal s.domains.now (literals_end s.lits.now loop.i (omega arith))))
+returns c =
+    let loop = c.loop-variable in
+    let items = c.triples-variable-items in
+    rw (← items.ensures) (sym (loop.invariant ∙ no_literal c.args.domains.now (triples-end items.result.now loop.variable-index c.loop-variable-test.false)))

@@ -1,25 +1,20 @@
--- `table_rules::signed` meets its contract: the whole is the test of what is left. Assumes nothing.
-use mathlib.Core.Path.{refl, sym, ◌∙◌}
-use native.Mathlib.Omega.{arith}
-use borrow.Author.Tests.{le-leb, lt-leb}
-use Rattle.theory.proofs.TableClauses.{literals-step, literals_end}
-use Rattle.table_rules.proofs.Laws.{all-next, all-fails, all_end}
+-- `table_rules::signed` meets its contract: `all` answers what the test says of each. Assumes nothing.
+use mathlib.Core.Path.{sym, ◌∙◌}
+use mathlib.Core.List.{List, map}
+use Prim.Native.Nat.{ℕ}
+use lib.Dec.{leb}
+use borrow.Author.Rules.{rules}
+use borrow.Author.Tests.{tests}
+use Rattle.std.proofs.lemmas.Iterator.{YieldsList-from_slice}
+use Rattle.std.proofs.lemmas.Iterator.Search.{all_from_yields_List}
+use Rattle.std.proofs.lemmas.List.Folds.{list_all-map}
+use Rattle.model.specs.Sheet.{Literal}
+use Rattle.table_rules.specs.Triple.{literal_of}
+use Rattle.table_rules.proofs.Laws.{tested}
 use Rattle.table_rules.proofs.signed.Goals as goal
 
-pub loop-i-init : goal.loop-i-init
-loop-i-init c = (omega arith, refl)
-
-pub returns-then-lits-i-gt1 : goal.returns-then-lits-i-gt1
-returns-then-lits-i-gt1 c =
-    let loop = c.loop-i in
-    let lits = c.args.lits.now in
-    sym (loop.invariant.1 ∙ all-fails _ (literals-step lits loop.i (omega arith)) (lt-leb _ _ c.if-lits-i-gt1.true))
-
-pub loop-i-preserved : goal.loop-i-preserved
-loop-i-preserved c =
-    let loop = c.loop-i in
-    let lits = c.args.lits.now in
-    (omega arith, loop.invariant.1 ∙ all-next _ (literals-step lits loop.i (omega arith)) (le-leb _ _ c.if-lits-i-gt1.false))
-
 pub returns : goal.returns
-returns c = let loop = c.loop-i in sym (loop.invariant.1 ∙ all_end _ (literals_end c.args.lits.now loop.i (omega arith)))
+returns c =
+    let triples = c.triples.result.now in
+    let each = all_from_yields_List (λ (t : List ℕ). leb (literal_of t).sign 1) _ _ c.all.result c.all.ensures.ran (YieldsList-from_slice triples cc) (λ x b q k. search (rules, tests)) in
+    rw (← c.triples.ensures) (each ∙ sym (list_all-map (λ (l : Literal). leb l.sign 1) literal_of triples) ∙ tested _ (map literal_of triples))

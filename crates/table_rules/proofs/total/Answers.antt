@@ -1,20 +1,15 @@
--- `table_rules::total` meets its contract: the sum so far and what is left add up to the whole. Assumes nothing.
+-- `table_rules::total` meets its contract: std's sum is the model's. Assumes nothing.
+use mathlib.Core.Path.{◌∙◌}
 use native.Mathlib.Omega.{arith}
-use Rattle.table_rules.proofs.Laws.{total-step, total-end}
+use borrow.Author.Rules.{rules}
+use Rattle.std.specs.List.{sum}
+use mathlib.Core.Path.{◌≡◌}
+use Rattle.table_rules.proofs.Laws.{summed, bytes_most}
 use Rattle.table_rules.proofs.total.Goals as goal
 
-pub overflow_cast-sum : goal.overflow_cast-sum
-overflow_cast-sum c = omega (arith, c.shared_slice_known-1.given c.loop-i.i)
-
-pub overflow_add-sum : goal.overflow_add-sum
-overflow_add-sum c = omega (arith, c.shared_slice_known-1.given c.loop-i.i)
-
-pub loop-i-preserved : goal.loop-i-preserved
-loop-i-preserved c =
-    let loop = c.loop-i in
-    let bytes = c.args.bytes.now in
-    let known = c.shared_slice_known-1.given loop.i in
-    (omega arith, omega arith, omega (arith, total-step bytes loop.i (omega arith)))
-
 pub returns : goal.returns
-returns c = let loop = c.loop-i in (omega (arith, total-end c.args.bytes.now loop.i (omega arith)), omega arith)
+returns c =
+    let bytes = c.args.bytes.now in
+    let e : c.sum.result ≡ sum bytes = search rules in
+    let f = e ∙ summed bytes in
+    (f, omega (arith, bytes_most bytes (λ i. omega (arith, c.type_inv.bytes i))))

@@ -3,7 +3,6 @@ use Rattle.listing.specs.Listing.{buffers}
 use mathlib.Core.Bool.{true, false}
 use Rattle.model.specs.Calls.{weights_call}
 use Rattle.listing_call.proofs.Answering.{kept}
-use borrow.Author.Rules.{rules}
 use Rattle.weights_call.proofs.list_weights.Goals as goal
 
 pub returns : goal.returns

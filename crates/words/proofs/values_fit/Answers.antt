@@ -1,29 +1,16 @@
--- `words::values_fit` meets its contract. The loop's invariant: the test of all variables is the answer so far and the test of those left. Assumes nothing.
-use Prim.Native.Nat.{◌+◌}
+-- `words::values_fit` meets its contract: what its closure tests of each variable in turn is the definition's test. Assumes nothing.
 use mathlib.Core.Path.{refl, sym, ◌∙◌}
-use mathlib.Core.Bool.{and_assoc}
-use native.Mathlib.Omega.{arith}
+use native.Mathlib.Nat.{zero-add, sub-zero}
+use Rattle.std.proofs.Common.{rules, tests}
+use Rattle.std.proofs.lemmas.Iterator.{YieldsList-from_range}
+use Rattle.std.proofs.lemmas.Iterator.Search.{all_from_yields_List}
 use Rattle.model.specs.Assignment.{values_fit}
-use Rattle.words.proofs.Loops.{fit_from, fit-step, fit-end}
+use Rattle.words.proofs.Loops.{fits_at, fit-all}
 use Rattle.words.proofs.values_fit.Goals as goal
 
-pub loop-v-init : goal.loop-v-init
-unfolding values_fit
-loop-v-init c = (omega arith, refl)
-
-pub loop-v-preserved : goal.loop-v-preserved
-loop-v-preserved c =
-    let s = c.args in
-    let p = c.requires in
-    let step = fit-step s.sizes.now s.d s.mask s.values c.loop-v.v p.0 p.1 c.loop-v-test.true in (
-      omega arith,
-      c.loop-v.invariant.1
-          ∙ rw (step, ← c.bit_at.ensures.0, ← c.nibble_at.ensures.0, ← c.nibble_fits-fit.ensures)
-          (sym (and_assoc c.loop-v.fit c.nibble_fits-fit.result (fit_from s.sizes.now s.d s.mask s.values (c.loop-v.v + 1)))),
-    )
-
 pub returns : goal.returns
+unfolding values_fit
 returns c =
     let s = c.args in
-    let p = c.requires in
-    sym (c.loop-v.invariant.1 ∙ rw (fit-end s.sizes.now s.d s.mask s.values c.loop-v.v p.0 p.1 (omega arith), ← c.after.ensures))
+    let within = all_from_yields_List (fits_at s.sizes.now s.mask s.values) _ _ c.all-within.result c.all-within.ensures.ran (YieldsList-from_range 0 s.d s.d refl (sub-zero s.d)) (λ x b q k. search (rules, tests)) in
+    sym (fit-all s.sizes.now s.d s.mask s.values c.requires.0 c.requires.1 s.d 0 (zero-add s.d) ∙ rw (← within, ← c.after.ensures))

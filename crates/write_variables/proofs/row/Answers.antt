@@ -12,24 +12,21 @@ use Rattle.write_variables.proofs.row.Goals as goal
 pub put-at-requires : goal.put-at-requires
 put-at-requires c = let long = row_length c.args.costs.now in (omega arith, omega arith, omega arith, omega arith)
 
-pub loop-i-init : goal.loop-i-init
-loop-i-init c =
+pub loop-cost-init : goal.loop-cost-init
+loop-cost-init c =
     let costs = c.args.costs.now in
     fields-start (omega (arith, row_length costs, digits_length 2 4 (length costs - 1)))
 
-pub overflow_cast-costs-in-loop-i : goal.overflow_cast-costs-in-loop-i
-overflow_cast-costs-in-loop-i c = omega (arith, c.shared_slice_known-in-loop-i-1.given c.loop-i.i)
+pub put-at-requires-in-loop-cost : goal.put-at-requires-in-loop-cost
+put-at-requires-in-loop-cost c =
+    let room = fields-room c.loop-cost.invariant c.loop-cost-test.true in
+    (omega arith, omega arith, room, omega arith)
 
-pub put-at-requires-in-loop-i : goal.put-at-requires-in-loop-i
-put-at-requires-in-loop-i c =
-    let room = fields-room c.loop-i.invariant c.loop-i-test.true in
-    (omega arith, omega (arith, c.shared_slice_known-in-loop-i-1.given c.loop-i.i), room, omega arith)
-
-pub loop-i-preserved : goal.loop-i-preserved
-loop-i-preserved c = fields-step c.loop-i.invariant c.loop-i-test.true (omega arith) c.put-at-in-loop-i.ensures
+pub loop-cost-preserved : goal.loop-cost-preserved
+loop-cost-preserved c = fields-step c.loop-cost.invariant c.loop-cost-test.true c.from.ensures (omega arith) c.put-at-in-loop-cost.ensures
 
 pub returns : goal.returns
 unfolding edition1
 returns c =
     let put = c.put-at in
-    puts_then (omega (arith, bits_length c.args.sheet.now)) put.ensures (fields-end c.loop-i.invariant c.loop-i-test.false)
+    puts_then (omega (arith, bits_length c.args.sheet.now)) put.ensures (fields-end c.loop-cost.invariant c.loop-cost-test.false)

@@ -15,27 +15,27 @@ pub loop-i-init : goal.loop-i-init
 loop-i-init c = let g = c.requires.0 in (along-first _ _ _ g.room g.below, refl)
 
 pub overflow_mul-end : goal.overflow_mul-end
-overflow_mul-end c = omega (arith, c.wide.ensures, along-room _ _ _ _ _ c.loop-i.invariant.0 c.loop-i-test.true)
+overflow_mul-end c = omega (arith, c.from.ensures, along-room _ _ _ _ _ c.loop-i.invariant.0 c.loop-i-test.true)
 
 pub overflow_add-end : goal.overflow_add-end
-overflow_add-end c = omega (arith, c.wide.ensures, along-room _ _ _ _ _ c.loop-i.invariant.0 c.loop-i-test.true)
+overflow_add-end c = omega (arith, c.from.ensures, along-room _ _ _ _ _ c.loop-i.invariant.0 c.loop-i-test.true)
 
 pub slice_bounds-fails-end : goal.slice_bounds-fails-end
-slice_bounds-fails-end c = omega (arith, c.wide.ensures, along-room _ _ _ _ _ c.loop-i.invariant.0 c.loop-i-test.true)
+slice_bounds-fails-end c = omega (arith, c.from.ensures, along-room _ _ _ _ _ c.loop-i.invariant.0 c.loop-i-test.true)
 
 pub fails-requires : goal.fails-requires
 fails-requires c =
     let h = c.loop-i in
     let lt = c.loop-i-test.true in
-    let x = c.wide in
+    let x = c.from in
     let e : h.at + 3 * x.result - h.at ≡ 3 * x.result = omega arith in
     rw (e, x.ensures)
-    (along-below _ _ _ _ _ h.invariant.0 lt, λ w. rw (along-nth _ _ _ _ _ h.invariant.0 lt) at (c.requires.1 h.i (sym c.is_in.ensures ∙ w)))
+    (along-below _ _ _ _ _ h.invariant.0 lt, λ w. rw (along-nth _ _ _ _ _ h.invariant.0 lt) at (c.requires.1 h.i (sym c.contains.ensures ∙ w)))
 
 pub returns-then-fails : goal.returns-then-fails
 returns-then-fails c =
     let h = c.loop-i in
-    let x = c.wide in
+    let x = c.from in
     let lt = c.loop-i-test.true in
     let e : h.at + 3 * x.result - h.at ≡ 3 * x.result = omega arith in
     sym (h.invariant.1 ∙ any_step _ _ _ _ _ _ h.invariant.0 lt _ (rw (e, x.ensures) at c.fails.ensures) ∙ rw c.if-fails.true)
@@ -44,7 +44,7 @@ pub loop-i-preserved : goal.loop-i-preserved
 loop-i-preserved c =
     let h = c.loop-i in
     let lt = c.loop-i-test.true in
-    let x = c.wide in
+    let x = c.from in
     let e : h.at + 3 * x.result - h.at ≡ 3 * x.result = omega arith in (
       rw x.ensures (along-next _ _ _ _ _ h.invariant.0 lt),
       h.invariant.1 ∙ any_step _ _ _ _ _ _ h.invariant.0 lt _ (rw (e, x.ensures) at c.fails.ensures) ∙ rw c.if-fails.false,

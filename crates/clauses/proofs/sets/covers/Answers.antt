@@ -5,15 +5,15 @@ use native.Mathlib.Omega.{arith}
 use Rattle.clauses.proofs.sets.covers.Goals as goal
 
 pub loop-k-init : goal.loop-k-init
-loop-k-init c = (omega arith, lacking_first _ _ _)
+loop-k-init c = lacking_first _ _ _
 
 pub loop-k-preserved : goal.loop-k-preserved
 loop-k-preserved c =
     let h = c.loop-k in
-    (omega arith, lacking_step _ _ _ _ h.k (c.shared_slice_known-1.given _).fits h.invariant.1)
+    lacking_step _ _ _ _ h.k (c.shared_slice_known-1.given _).fits h.invariant
 
 pub returns : goal.returns
 returns c =
     let h = c.loop-k in
     let e : h.k ≡ 8 = omega arith in
-    lacking_end _ _ _ _ (rw e at h.invariant.1)
+    lacking_end _ _ _ _ (rw e at h.invariant)

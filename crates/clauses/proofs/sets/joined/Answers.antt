@@ -5,21 +5,15 @@ use native.Mathlib.Omega.{arith}
 use Rattle.clauses.proofs.sets.joined.Goals as goal
 
 pub loop-k-init : goal.loop-k-init
-loop-k-init c = (omega arith, joining_first _ _ _ (omega arith))
-
-pub bounds-out-k : goal.bounds-out-k
-bounds-out-k c = omega (arith, c.loop-k.invariant.1.long)
-
-pub bounds-out-k-in-loop-k : goal.bounds-out-k-in-loop-k
-bounds-out-k-in-loop-k c = omega (arith, c.loop-k.invariant.1.long)
+loop-k-init c = joining_first _ _ _ (omega arith)
 
 pub loop-k-preserved : goal.loop-k-preserved
 loop-k-preserved c =
     let h = c.loop-k in
-    (omega arith, joining_step _ _ _ h.out h.k (omega arith) h.invariant.1)
+    joining_step _ _ _ h.word-items h.k (omega arith) h.invariant
 
 pub returns : goal.returns
 returns c =
     let h = c.loop-k in
     let e : h.k ≡ 8 = omega arith in
-    joining_end _ _ _ _ (rw e at h.invariant.1)
+    joining_end _ _ _ _ (rw e at h.invariant)

@@ -11,25 +11,25 @@ loop-i-init c =
     filling_first _ _ _ _ c.requires.0 c.requires.1 c.requires.2 c.requires.3 c.requires.4
 
 pub overflow_mul-end : goal.overflow_mul-end
-overflow_mul-end c = omega (arith, c.wide.ensures, along-room _ _ _ _ _ c.loop-i.invariant.along c.loop-i-test.true)
+overflow_mul-end c = omega (arith, c.from.ensures, along-room _ _ _ _ _ c.loop-i.invariant.along c.loop-i-test.true)
 
 pub overflow_add-end : goal.overflow_add-end
-overflow_add-end c = omega (arith, c.wide.ensures, along-room _ _ _ _ _ c.loop-i.invariant.along c.loop-i-test.true)
+overflow_add-end c = omega (arith, c.from.ensures, along-room _ _ _ _ _ c.loop-i.invariant.along c.loop-i-test.true)
 
 pub slice_bounds-mark_clause-end : goal.slice_bounds-mark_clause-end
-slice_bounds-mark_clause-end c = omega (arith, c.wide.ensures, along-room _ _ _ _ _ c.loop-i.invariant.along c.loop-i-test.true)
+slice_bounds-mark_clause-end c = omega (arith, c.from.ensures, along-room _ _ _ _ _ c.loop-i.invariant.along c.loop-i-test.true)
 
 pub mark_clause-requires : goal.mark_clause-requires
 mark_clause-requires c =
     let h = c.loop-i in
-    let x = c.wide in
+    let x = c.from in
     let e : h.at + 3 * x.result - h.at ≡ 3 * x.result = omega arith in
     (rw (e, x.ensures) (along-below _ _ _ _ _ h.invariant.along c.loop-i-test.true), h.invariant.sat_long, h.invariant.uses_long, omega (arith, h.invariant.most))
 
 pub loop-i-preserved : goal.loop-i-preserved
 loop-i-preserved c =
     let h = c.loop-i in
-    let x = c.wide in
+    let x = c.from in
     let m = c.mark_clause in
     let e : h.at + 3 * x.result - h.at ≡ 3 * x.result = omega arith in
     rw x.ensures

@@ -1,11 +1,6 @@
 -- `tables::prepare` meets its contract. The loop: both tables have the clauses before i, whose literals end at `at`. Assumes nothing.
-use Prim.Native.Nat.{◌-◌}
-use lib.ListN.{length}
 use Rattle.clauses.proofs.Filling.{Filling}
 use Rattle.clauses.proofs.tables.prepare.Given as goal
 
 abbrev pub invariant-loop-i : goal.invariant-loop-i
 invariant-loop-i l = Filling l.counts l.lits l.initial.sat l.initial.uses l.sat l.uses l.at l.i
-
-abbrev pub decreases-loop-i : goal.decreases-loop-i
-decreases-loop-i l = length l.counts - l.i

@@ -11,26 +11,22 @@ use Rattle.conflict.proofs.Bytes.{by_bytes}
 use Rattle.conflict.proofs.tests.fill.Goals as goal
 
 pub loop-v-init : goal.loop-v-init
-loop-v-init c = (omega arith, omega arith, λ k h. absurd (omega arith))
-
-pub loop-v-smaller : goal.loop-v-smaller
-loop-v-smaller c = simp length-set (omega arith)
+loop-v-init c = (omega arith, λ k h. absurd (omega arith))
 
 pub loop-v-preserved : goal.loop-v-preserved
 loop-v-preserved c =
     let h = c.loop-v in (
-      simp length-set (omega arith),
-      simp length-set h.invariant.1,
-      below_more _ _ (λ k l. get_or-set_other h.vals h.v k c.byte_at.result 0 (λ e. omega arith) ∙ h.invariant.2 k l)
-          (get_or-set_same h.vals h.v c.byte_at.result 0 (omega arith) ∙ c.byte_at.ensures),
+      simp length-set h.invariant.0,
+      below_more _ _ (λ k l. get_or-set_other h.vals h.v k c.byte_at.result 0 (λ e. omega arith) ∙ h.invariant.1 k l)
+          (get_or-set_same h.vals h.v c.byte_at.result 0 (omega (arith, h.invariant.0)) ∙ c.byte_at.ensures),
     )
 
 pub shape_of-vals : goal.shape_of-vals
-shape_of-vals c = c.loop-v.invariant.1
+shape_of-vals c = c.loop-v.invariant.0
 
 pub returns : goal.returns
 returns c =
     let h = c.loop-v in
     by_bytes (assignment_of c.args.d c.args.mask c.args.values) (length c.args.vals.now - c.args.d) h.vals
-    (omega (arith, h.invariant.1, assignment_length c.args.d c.args.mask c.args.values c.requires.0))
-    (λ k l. h.invariant.2 k (omega arith))
+    (omega (arith, h.invariant.0, assignment_length c.args.d c.args.mask c.args.values c.requires.0))
+    (λ k l. h.invariant.1 k (omega arith))

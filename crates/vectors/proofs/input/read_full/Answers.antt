@@ -18,15 +18,14 @@ slice_range-put_mid a k n xs ys within fits =
     let after = post_of a k xs in
     ap (take ((a + n) - a)) (drop_at (take a xs) (ys ++ after) a (length-take-le a xs within)) ∙ ap (λ m. take m (ys ++ after)) same ∙ take-append-le n ys after fits
 
-pub loop-turn-preserved : goal.loop-turn-preserved
-loop-turn-preserved g c =
-    let from = c.loop-turn.done in
-    let room = length c.loop-turn.buf - from in
-    let within = c.loop-turn.invariant.within in
-    let part = slice_range-put_mid from room c.in_ok-n.n c.loop-turn.buf c.read.new.buf within c.in_ok-n.ensures.bound.0 in
-    let joined = take_split from (from + c.in_ok-n.n) c.loop-turn.buf (put_mid from room c.loop-turn.buf c.read.new.buf) (omega arith) (take-put_mid_below _ _ _ _ _ (le_refl _) within) in
+pub loop-done-preserved : goal.loop-done-preserved
+loop-done-preserved g c =
+    let from = c.loop-done.done in
+    let room = length c.loop-done.buf - from in
+    let within = c.loop-done.invariant.within in
+    let part = slice_range-put_mid from room c.in_ok-n.n c.loop-done.buf c.read.new.buf within c.in_ok-n.ensures.bound.0 in
+    let joined = take_split from (from + c.in_ok-n.n) c.loop-done.buf (put_mid from room c.loop-done.buf c.read.new.buf) (omega arith) (take-put_mid_below _ _ _ _ _ (le_refl _) within) in
     record {
       within = search rules;
-      turns = omega arith;
-      taken = subst (Consumes _ _) (ap (λ l. take from c.loop-turn.buf ++ l) (sym part) ∙ joined) (Consumes-trans _ _ _ _ _ c.loop-turn.invariant.taken c.in_ok-n.ensures.bytes.0);
+      taken = subst (Consumes _ _) (ap (λ l. take from c.loop-done.buf ++ l) (sym part) ∙ joined) (Consumes-trans _ _ _ _ _ c.loop-done.invariant.taken c.in_ok-n.ensures.bytes.0);
     }
