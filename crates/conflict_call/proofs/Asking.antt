@@ -63,7 +63,7 @@ module _ (domains : List ℕ) (mask values : ℕ) where
       go false v e f = absurd (none-ne-some _ (h ∙ ground-mask e))
 
   -- no ground has the number 0
-  numbered : {n : ℕ} → first_given (word_grounds domains mask values) ≡ some n → n ≡ 0 → ⊥
+  pub numbered : {n : ℕ} → first_given (word_grounds domains mask values) ≡ some n → n ≡ 0 → ⊥
   numbered {n} h z = go (mask_fits domains mask) (values_fit domains mask values) refl refl
     where
       is : (m : ℕ) → first_given (word_grounds domains mask values) ≡ some m → n ≡ m

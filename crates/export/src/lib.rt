@@ -48,7 +48,7 @@ fn ending_number(e: Ending) -> u32
 }
 
 // Writes the six result words of a run.
-fn write(res: &mut [u32], ran: Ran)
+pub fn write(res: &mut [u32], ran: Ran)
     requires { 6 ≤ length res.old }
     ensures { res.new ≡ filled (result_words (ending_of ran.ending) (counts_of ran.counts)) res.old }
 {

@@ -61,3 +61,19 @@ pub fn print_hex<W: Write>(out: &mut W, n: u64, digits: usize, after: u8) -> io:
     let at = put_hexadecimal(&mut line, 0, n, digits);
     print_front(out, &mut line, at, after)
 }
+
+// Writes a number in eight hexadecimal digits and the byte that follows it.
+pub fn print_hex8<W: Write>(out: &mut W, n: u32, after: u8) -> io::Result<()>
+    ensures ok { OnOk result (Appends (W.contents out.old) (W.contents out.new) (hexadecimal 8 n ++ (after ∷ []))) }
+    ensures err { OnErr result (AppendsFront (W.contents out.old) (W.contents out.new) (hexadecimal 8 n ++ (after ∷ []))) }
+{
+    print_hex(out, u64::from(n), 8, after)
+}
+
+// Writes a number in sixteen hexadecimal digits and the byte that follows it.
+pub fn print_hex16<W: Write>(out: &mut W, n: u64, after: u8) -> io::Result<()>
+    ensures ok { OnOk result (Appends (W.contents out.old) (W.contents out.new) (hexadecimal 16 n ++ (after ∷ []))) }
+    ensures err { OnErr result (AppendsFront (W.contents out.old) (W.contents out.new) (hexadecimal 16 n ++ (after ∷ []))) }
+{
+    print_hex(out, n, 16, after)
+}

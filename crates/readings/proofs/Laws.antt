@@ -1,11 +1,14 @@
 -- What the answers say of the readings that they stand for, and laws by which the readers' loops meet the model's readings. Assumes nothing.
 use mathlib.Core.Path.{◌≡◌, refl, sym, ap, ◌∙◌}
 use mathlib.Core.List.{List, [], ◌∷◌, ◌++◌, append-nil, append_assoc}
-use Prim.Native.Nat.{ℕ, suc, ◌+◌, ◌-◌, ◌≤◌, ◌<◌}
+use Prim.Native.Nat.{ℕ, suc, ◌+◌, ◌-◌, ◌≤◌, ◌<◌, ◌^◌}
 use native.Mathlib.Omega.{arith}
 use native.Mathlib.Nat.{sub-zero}
-use Rattle.model.specs.Sheet.{Read, refused, got, then, many}
-use Rattle.std.specs.Prelude.{Result, Ok, Err, IsErrAnd}
+use Rattle.model.specs.Sheet.{Read, refused, got, then, many, field}
+use Rattle.theory.proofs.Sheet.{field-got}
+use Rattle.std.specs.Prelude.{Option, Some, None, Result, Ok, Err, IfOk, IsErrAnd}
+use Rattle.std.specs.Option.{ok_or}
+use Rattle.bits.specs.Field.{field_of}
 use Rattle.refusal.specs.declared.AuthorGround.{AuthorGround}
 use Rattle.refusal.specs.Refusal.{author_number}
 use Rattle.readings.specs.Answers.{read_of}
@@ -16,6 +19,11 @@ use Rattle.readings.specs.Answers.{read_of}
 pub refused_as : {A B : Type 0} (a : B → A) (place : ℕ) (g : AuthorGround) {x : Read A} (r : Result B AuthorGround) → IsErrAnd r (λ y. y ≡ g) → x ≡ refused (author_number g) → read_of a place r ≡ x
 refused_as a place g (Ok b) e h = absurd e
 refused_as a place g (Err y) e h = ap (λ g. refused (author_number g)) e ∙ sym h
+
+-- a field of w bits is below 2 ^ w, where `?` goes on with it
+pub below : (sheet : List ℕ) (w place after : ℕ) (g : AuthorGround) (r : Option ℕ) (q : Result ℕ AuthorGround) → q ≡ ok_or r g → field_of after r ≡ field sheet w place → IfOk q (λ n. n < 2 ^ w)
+below sheet w place after g (Some n) q e h = rw e (field-got sheet w place n after (sym h)).0
+below sheet w place after g None q e h = rw e tt
 
 -- ---- a loop of n readings of one kind
 

@@ -9,7 +9,7 @@ ghost use Rattle.vectors.specs.Bytes.{mix, mix64};
 use answers::{print_ending, print_refusal};
 use listing::{Counts, Ran};
 use listing_call::list;
-use printing::{print_hex, print_number};
+use printing::{print_hex8, print_number};
 use refusal::Refusal;
 use std::io;
 use std::io::{Read, Write};
@@ -82,7 +82,7 @@ fn print_line<W: Write, F: Mixed>(
     let coded = mixed_all(CHECKSUM_START, codes);
     let figured = mixed_all(coded, figures);
     let hash = checksum(figured, values, queue, store);
-    print_hex(out, u64::from(hash), 8, b'\n')
+    print_hex8(out, hash, b'\n')
 }
 
 // So many bytes of values as there is room for.

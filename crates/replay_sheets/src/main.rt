@@ -7,7 +7,7 @@ ghost use Rattle.std.specs.Prelude.{◌≤◌, length};
 ghost use Rattle.readings.specs.Lengths.{size_entries, count_entries, literal_bytes};
 
 use limits::VALUES;
-use printing::{print_hex, print_number, print_text};
+use printing::{print_hex8, print_number, print_text};
 use sheet::{CLAUSE_BYTES, COST_ENTRIES, COUNT_ENTRIES, LITERAL_BYTES, Numbers, SIZE_ENTRIES};
 use std::io;
 use std::io::{Read, Write};
@@ -77,7 +77,7 @@ fn answer<W: Write>(out: &mut W, bytes: &[u8]) -> io::Result<()> {
             print_number(out, numbers.decisions as u64, b' ')?;
             print_number(out, numbers.states as u64, b' ')?;
             print_number(out, numbers.clauses as u64, b' ')?;
-            print_hex(out, u64::from(hash), 8, b'\n')
+            print_hex8(out, hash, b'\n')
         }
     }
 }

@@ -7,7 +7,7 @@ ghost use Rattle.std.specs.Prelude.{◌≡◌, ◌≤◌, IfOk, fold};
 ghost use Rattle.vectors.specs.Bytes.{checksum_start, mix, mix16};
 
 use answers::print_refusal;
-use printing::{print_hex, print_number, print_text};
+use printing::{print_hex8, print_number, print_text};
 use readings::{COST_ENTRIES, COUNT_ENTRIES, LITERAL_BYTES, SIZE_ENTRIES};
 use refusal::Refusal;
 use std::io;
@@ -71,7 +71,7 @@ fn read_back<W: Write>(out: &mut W, sheet: &[u8]) -> io::Result<()> {
         }
     }
     let hash = checksum(&sizes, &costs, &counts, &lits);
-    print_hex(out, u64::from(hash), 8, b'\n')
+    print_hex8(out, hash, b'\n')
 }
 
 // Prints who caused a refusal.
@@ -90,13 +90,13 @@ fn answer<W: Write>(out: &mut W, tables: &Tables, sheet: &mut [u8]) -> io::Resul
         Err(refusal) => {
             print_refusal(out, refusal, b' ')?;
             print_whose(out, refusal)?;
-            print_hex(out, u64::from(mixed_all(CHECKSUM_START, sheet)), 8, b'\n')?;
+            print_hex8(out, mixed_all(CHECKSUM_START, sheet), b'\n')?;
             Ok(0)
         }
         Ok(n) => {
             print_text(out, b"wrote ")?;
             print_count(out, n)?;
-            print_hex(out, u64::from(mixed_all(CHECKSUM_START, sheet)), 8, b' ')?;
+            print_hex8(out, mixed_all(CHECKSUM_START, sheet), b' ')?;
             Ok(n as usize)
         }
     }

@@ -4,7 +4,7 @@
 
 use answers::print_refusal;
 use conflict_call::Reduction;
-use printing::{print_hex, print_number, print_text};
+use printing::{print_hex8, print_hex16, print_number, print_text};
 use std::io;
 use std::io::{Read, Write};
 use trials::Answer;
@@ -28,7 +28,7 @@ fn test<W: Write>(out: &mut W, sheet: &[u8], mask: u64, values: u64, limit: u32)
         Ok(Answer::Spent(t)) => tried(out, b"spent ", t, b' ')?,
     }
     let hash = mixed_all(CHECKSUM_START, &shown);
-    print_hex(out, u64::from(hash), 8, b'\n')
+    print_hex8(out, hash, b'\n')
 }
 
 // Reduces and prints the answer.
@@ -45,8 +45,8 @@ fn reduce<W: Write>(
         Ok(Reduction::Spent(t)) => tried(out, b"spent ", t, b'\n'),
         Ok(Reduction::Conflict(m, v, t)) => {
             print_text(out, b"conflict ")?;
-            print_hex(out, m, 16, b' ')?;
-            print_hex(out, v, 16, b' ')?;
+            print_hex16(out, m, b' ')?;
+            print_hex16(out, v, b' ')?;
             print_number(out, u64::from(t), b'\n')
         }
     }

@@ -10,7 +10,7 @@ ghost use Rattle.readings.specs.Answers.{read_of};
 ghost use Rattle.sheet_clauses.specs.Literal.{lit_of};
 
 use bits::Reader;
-use readings::COUNT_BITS;
+use readings::{COUNT_BITS, LITERAL_BITS};
 use refusal::AuthorGround;
 
 // A literal as its three bytes in the table.
@@ -29,13 +29,15 @@ fn literal_at(reader: &mut Reader, domains: &[u8]) -> Result<Literal, AuthorGrou
     ensures place { reader.new.place ≤ reader.old.place + literal_bits }
     ensures read { lit_of reader.new.place result ≡ read_literal reader.old.sheet.now domains.now reader.old.place }
 {
-    let variable = readings::field(reader, 6)?;
+    let fields = bits::three(reader.sheet, reader.place, 6, 1, 4);
+    reader.place += LITERAL_BITS;
+    let variable = fields.first.ok_or(AuthorGround::SheetShort)?;
     let v = variable as usize;
     if v >= domains.len() {
         return Err(AuthorGround::SheetVariable);
     }
-    let sign = readings::field(reader, 1)?;
-    let value = readings::field(reader, 4)? as u8;
+    let sign = fields.second.ok_or(AuthorGround::SheetShort)?;
+    let value = fields.third.ok_or(AuthorGround::SheetShort)? as u8;
     if value >= domains[v] {
         return Err(AuthorGround::SheetValue);
     }

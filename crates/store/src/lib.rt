@@ -8,6 +8,7 @@
 ghost use Rattle.std.specs.Prelude.{◌≡◌, false, List, [], ◌∷◌, ◌++◌, ℕ, ◌+◌, ◌*◌, ◌≤◌, ◌<◌, length, get_or, drop, replicate};
 ghost use Rattle.model.specs.Lists.{filled};
 ghost use Rattle.model.specs.Assignment.{Assignment};
+ghost use Rattle.model.specs.Conflict.{manifests};
 ghost use Rattle.model.specs.Listing.{manifests_any, first_unresolved};
 ghost use Rattle.model.specs.Calls.{entry_words};
 ghost use Rattle.theory.specs.Words.{Words, Wide};
@@ -16,7 +17,7 @@ ghost use Rattle.store.specs.Store.{Keeps, Tells, pair_at, FirstOf};
 use words::{Pair, WidePair};
 
 // The entries that are tested between two branches of a scan.
-const BLOCK: usize = 8;
+pub const BLOCK: usize = 8;
 
 // The entry at place i.
 pub fn entry_at(store: &[u64], i: usize) -> WidePair
@@ -90,7 +91,10 @@ pub fn manifests_any(store: &[u64], m: usize, node: WidePair) -> bool
     requires { 2 * m ≤ length store.now }
     ensures { (d : ℕ) (conflicts : List Assignment) (n : Assignment) → Keeps d store.now m conflicts → Wide n node.mask node.values → length n ≡ d → result ≡ manifests_any conflicts n }
 {
-    first_where(store, m, |entry| node.manifests(entry)).is_some()
+    let contains = |entry: WidePair| -> bool
+        ensures { (n c : Assignment) → Wide n node.mask node.values → Wide c entry.mask entry.values → length n ≡ length c → result ≡ manifests n c }
+    { node.manifests(entry) };
+    first_where(store, m, contains).is_some()
 }
 
 // The first of the m conflicts that a node does not resolve.

@@ -5,7 +5,7 @@ use mathlib.Core.List.{List, [], ◌∷◌, ◌++◌}
 use Prim.Native.Nat.{ℕ, ◌<◌}
 use native.Mathlib.Omega.{arith}
 use native.Mathlib.Nat.{add-zero}
-use lib.ListN.{length, get_or, take, drop, take-append-drop}
+use lib.ListN.{length, get_or, take, drop, take-append-drop, length-drop}
 use lib.Seq.{get_or-drop}
 use Rattle.model.specs.Lists.{All, Pairs, keep, any_of}
 use Rattle.model.specs.Assignment.{Assignment}
@@ -46,21 +46,21 @@ module _ (conflicts : List Assignment) (c : Assignment) (i : ℕ) (before : any_
       ∙ keep_join (λ s. not (manifests s c)) (take i conflicts) (drop i conflicts)
       ∙ rw (keep_all (λ s. not (manifests s c)) (take i conflicts) (all_map (λ s n. ap not n.1) (take i conflicts) unrelated))
 
-  module _ (inside : i < length conflicts) where
-    -- where it contains the one at place i it is dropped
-    pub admitted-dropped : manifests c (get_or conflicts i []) ≡ true → admitted conflicts c ≡ conflicts
-    admitted-dropped e =
-        let one : manifests_any (drop i conflicts) c ≡ true = any_split (manifests c) 1 (drop i conflicts) ∙ rw (any_one (manifests c) conflicts [] i inside ∙ e) in
-        rw (admitted, any_behind ∙ one)
+  -- where it contains the one at place i it is dropped
+  pub admitted-dropped : any_of (manifests c) (take 1 (drop i conflicts)) ≡ true → admitted conflicts c ≡ conflicts
+  admitted-dropped e =
+      let one : manifests_any (drop i conflicts) c ≡ true = any_split (manifests c) 1 (drop i conflicts) ∙ rw e in
+      rw (admitted, any_behind ∙ one)
 
-    -- where it is related to that one and does not contain it, it is put behind those that do not contain it
-    pub admitted-put : All (λ s. length s ≡ length c) conflicts → Pairs Neither conflicts → related c (get_or conflicts i []) ≡ true → manifests c (get_or conflicts i []) ≡ false
-        → admitted conflicts c ≡ take i conflicts ++ keep (λ s. not (manifests s c)) (drop i conflicts) ++ (c ∷ [])
-    admitted-put long p first e =
-        let whole = take-append-drop i conflicts in
-        let here : 0 < length (drop i conflicts) → related c (get_or (drop i conflicts) 0 []) ≡ true = λ h. rw (get_or-drop i conflicts 0 [], add-zero i) first in
-        let no = none-behind c (drop i conflicts) (all_right _ (take i conflicts) (drop i conflicts) (rw whole long)) (pairs-right Neither (take i conflicts) (drop i conflicts) (rw whole p)) here (any_one (manifests c) conflicts [] i inside ∙ e) in
-        rw (admitted, any_behind ∙ no, keep-behind)
+  -- where it does not, and it is related to the one at place i if there is one, it is put behind those that do not contain it
+  pub admitted-put : All (λ s. length s ≡ length c) conflicts → Pairs Neither conflicts → (i < length conflicts → related c (get_or conflicts i []) ≡ true)
+      → any_of (manifests c) (take 1 (drop i conflicts)) ≡ false
+      → admitted conflicts c ≡ take i conflicts ++ keep (λ s. not (manifests s c)) (drop i conflicts) ++ (c ∷ [])
+  admitted-put long p first e =
+      let whole = take-append-drop i conflicts in
+      let here : 0 < length (drop i conflicts) → related c (get_or (drop i conflicts) 0 []) ≡ true = λ h. rw (get_or-drop i conflicts 0 [], add-zero i) (first (omega (arith, length-drop i conflicts))) in
+      let no = none-behind c (drop i conflicts) (all_right _ (take i conflicts) (drop i conflicts) (rw whole long)) (pairs-right Neither (take i conflicts) (drop i conflicts) (rw whole p)) here e in
+      rw (admitted, any_behind ∙ no, keep-behind)
 
 -- where none is related to it, it is put behind them
 pub admitted-unrelated : (conflicts : List Assignment) (c : Assignment) → any_of (related c) conflicts ≡ false → admitted conflicts c ≡ conflicts ++ (c ∷ [])

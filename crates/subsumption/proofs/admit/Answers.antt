@@ -1,5 +1,6 @@
 -- `subsumption::admit` meets its contract: the first entry that is related to the conflict settles whether it is dropped, and from there on those that contain it are removed. Assumes nothing.
 use mathlib.Core.Path.{refl, sym, ◌∙◌}
+use mathlib.Core.List.{[]}
 use Prim.Native.Nat.{◌+◌, ◌*◌}
 use native.Mathlib.Omega.{arith}
 use Rattle.std.proofs.Common.{rules}
@@ -7,7 +8,7 @@ use Rattle.model.specs.Conflict.{manifests}
 use Rattle.theory.specs.Store.{related}
 use Rattle.theory.proofs.Lists.{all_map}
 use Rattle.store.proofs.Entries.{keeps-answer}
-use Rattle.store.proofs.Scan.{found_at, none_of_all}
+use Rattle.store.proofs.Scan.{any_one, found_at, none_of_all}
 use Rattle.subsumption.proofs.Subsuming.{admitted-unrelated, admitted-dropped, admitted-put}
 use Rattle.subsumption.proofs.Pushing.{same-behind, wide-words}
 use Rattle.subsumption.proofs.admit.Goals as goal
@@ -33,7 +34,8 @@ returns-then-manifests c =
           let wide = wide-words w c.widened-conflict.ensures in
           let first = found_at (related n) conflicts c.args.m k.count (λ i r h given. keeps-answer k i h refl refl related wide l (search rules)) at found in
           let contains = keeps-answer k at found.there.0 entry.0 entry.1 manifests wide l c.manifests.ensures in
-          rw (admitted-dropped conflicts n at first.0 (omega (arith, k.count, found.there.0)) (sym contains ∙ c.if-manifests.true)) k;
+          let alone = any_one (manifests n) conflicts [] at (omega (arith, k.count, found.there.0)) in
+          rw (admitted-dropped conflicts n at first.0 (alone ∙ sym contains ∙ c.if-manifests.true)) k;
       behind = refl;
     }
 
@@ -51,7 +53,8 @@ returns c =
           let first = found_at (related n) conflicts s.m k.count (λ i r h given. keeps-answer k i h refl refl related wide l (search rules)) at found in
           let contains = keeps-answer k at found.there.0 entry.0 entry.1 manifests wide l c.manifests.ensures in
           let long = all_map (λ t o. o.0 ∙ sym l) conflicts k.each in
-          rw (admitted-put conflicts n at first.0 (omega (arith, k.count, found.there.0)) long p first.1 (sym contains ∙ c.if-manifests.false))
+          let alone = any_one (manifests n) conflicts [] at (omega (arith, k.count, found.there.0)) in
+          rw (admitted-put conflicts n at first.0 long p (λ inside. first.1) (alone ∙ sym contains ∙ c.if-manifests.false))
           (appended.ensures.kept d _ n (pushed.ensures.kept d conflicts n k wide l) w l);
       behind = same-behind appended.new.store pushed.new.store (2 * pushed.result + 2) (2 * s.m + 2) (omega arith) appended.ensures.behind
           ∙ same-behind pushed.new.store s.store.now (2 * s.m) (2 * s.m + 2) (omega arith) pushed.ensures.behind;
