@@ -3,5 +3,5 @@ use Rattle.std.proofs.Common.{arith}
 use Rattle.theory.proofs.Longest.{longest-edition1}
 use Rattle.replay_tables.proofs.answer.Goals as goal
 
-pub returns-in_ok-print_hex-in-Ok : goal.returns-in_ok-print_hex-in-Ok
-returns-in_ok-print_hex-in-Ok g c = omega (arith, c.in-Ok.ensures.right.most, longest-edition1)
+pub returns-in_ok-print_hex8-in-Ok : goal.returns-in_ok-print_hex8-in-Ok
+returns-in_ok-print_hex8-in-Ok g c = omega (arith, c.in-Ok.ensures.right.most, longest-edition1)
