@@ -47,6 +47,11 @@ module _ (w : Bool) (sheet : List ℕ) (k : ℕ) (b : Buffers) (held limit : ℕ
   unfolding listing_with
   author-refused ok e = rw (listing_with, ← ok, e) refl
 
+-- a call for no state is refused by the host's first ground
+pub none_wanted : (w : Bool) (sheet : List ℕ) (k : ℕ) (b : Buffers) (held limit : ℕ) (short : Bool) → k ≡ 0 → listing_with (edition_of w) sheet k b held limit short ≡ refusing b (by_host 1)
+unfolding first_given host_grounds
+none_wanted w sheet k b held limit short e = host_refused w sheet k b held limit short (rw (e, host_grounds))
+
 -- a refused call is answered as the model's, with every lent buffer as it was
 pub refused-called : {w : Bool} {sheet : List ℕ} {k held limit : ℕ} {short : Bool} {figures : ℕ} {codes values queue store codes' values' queue' store' : List ℕ} {r : Refusal} (costs : List ℕ) → length costs ≡ figures
     → RefusedOn w sheet k held limit short figures codes values queue store codes' values' queue' store' r

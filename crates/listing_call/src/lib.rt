@@ -61,6 +61,7 @@ pub struct Listed {
 
 // Lists the codes of the sheet's leading states, for either edition: the host's refusals, with `figures` places for figures
 // and `short` as above, the sheet's, or the run of its plant, whose costs or weights are left in the table of prices.
+#[tactic(auto, using(crate::proofs::Answering::none_wanted))]
 pub fn list_codes(
     sheet: &[u8],
     weighed: bool,
