@@ -61,6 +61,7 @@ pub struct Listed {
 
 // Lists the codes of the sheet's leading states, for either edition: the host's refusals, with `figures` places for figures
 // and `short` as above, the sheet's, or the run of its plant, whose costs or weights are left in the table of prices.
+// By the law that is named a right exit in front of `fit` is proved too, so that `author_blamed` is refused for whom it blames.
 #[tactic(auto, using(crate::proofs::Answering::none_wanted))]
 pub fn list_codes(
     sheet: &[u8],
